@@ -1,7 +1,6 @@
 //! Sentences, of texts and numbers.
 
-use pr_output::{WriteFault, put};
-use pr_words::put_number;
+use pr_output::{WriteFault, put, put_number};
 use std::io::Write;
 
 /// A part of a sentence.

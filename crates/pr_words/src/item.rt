@@ -1,10 +1,9 @@
 //! Items of a history in words.
 
 use crate::command::put_request;
-use crate::numbers::put_number;
 use crate::reply::put_reply;
 use crate::standing::name_of;
-use pr_output::{Token, WriteFault, put, put_spaced};
+use pr_output::{Token, WriteFault, put, put_number, put_spaced};
 use pr_roles::{Entry, Item, Nexus};
 use std::io::Write;
 

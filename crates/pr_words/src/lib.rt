@@ -19,7 +19,6 @@ mod telling;
 pub use command::{put_command, put_request};
 pub use held::put_held;
 pub use item::put_item;
-pub use numbers::put_number;
 pub use reply::{put_class, put_reply};
 pub use sense::put_sense;
 pub use source_line::{line_in, put_carets, put_source_line};

@@ -1,17 +1,11 @@
-//! Numbers: in decimal digits, and bytes in hexadecimal ones.
+//! Bytes in hexadecimal digits.
 
-use itoa::Buffer;
 use pr_output::{WriteFault, put};
 use std::io::Write;
 
 const DIGITS: [u8; 16] = [
     b'0', b'1', b'2', b'3', b'4', b'5', b'6', b'7', b'8', b'9', b'a', b'b', b'c', b'd', b'e', b'f',
 ];
-
-/// Writes the number in decimal digits.
-pub fn put_number<W: Write>(writer: &mut W, number: u64) -> Result<(), WriteFault> {
-    put(writer, Buffer::new().format(number).as_bytes())
-}
 
 /// Writes the byte in two hexadecimal digits.
 pub(crate) fn put_pair<W: Write>(writer: &mut W, byte: u8) -> Result<(), WriteFault> {

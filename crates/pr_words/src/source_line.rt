@@ -1,9 +1,8 @@
 //! Lines of a scenario's text, with their numbers.
 
-use crate::numbers::put_number;
 use itoa::Buffer;
 use pr_lines::next_line;
-use pr_output::{WriteFault, put};
+use pr_output::{WriteFault, put, put_number};
 use std::io::Write;
 
 /// The line of a text that has this number, counted from 1, without its end.

@@ -2,12 +2,11 @@
 
 use crate::command::put_command;
 use crate::item::put_item;
-use crate::numbers::put_number;
 use crate::reply::put_reply;
 use crate::standing::{name_of, put_end, put_unit};
 use crate::telling::{Instead, Note, Telling};
 use pr_cdb::Status;
-use pr_output::{Token, WriteFault, put, put_line, put_spaced};
+use pr_output::{Token, WriteFault, put, put_line, put_number, put_spaced};
 use pr_roles::{Entry, Item, Nexus, Scenario};
 use pr_world::End;
 use std::io::Write;
