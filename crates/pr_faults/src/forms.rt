@@ -70,8 +70,7 @@ pub const COMMAND: Form = Form {
     stands: Stands::InScript,
 };
 
-/// The forms of all other lines.
-pub const FORMS: [Form; 21] = [
+const FORMS: [Form; 21] = [
     Form {
         word: b"fence",
         text: b"fence 1, or fence 2",
@@ -221,9 +220,14 @@ pub const FORMS: [Form; 21] = [
     },
 ];
 
+/// The forms of all other lines.
+pub fn forms() -> &'static [Form] {
+    &FORMS
+}
+
 /// The form of the lines that begin with this word.
 pub fn form_of(word: &[u8]) -> Option<&'static Form> {
-    for form in &FORMS {
+    for form in forms() {
         if form.word == word {
             return Some(form);
         }

@@ -1,6 +1,6 @@
 //! Lines that fit nothing, or not where they stand.
 
-use crate::forms::{COMMAND, FORMS, Form, Stands, form_of};
+use crate::forms::{COMMAND, Form, Stands, form_of, forms};
 use crate::misfit::{Misfit, first_misfit};
 use crate::nearest::{edits, nearest};
 use crate::open::{Block, Open, Section};
@@ -173,21 +173,24 @@ fn reason_in_block(
     form: &Form,
     words: &Words<'_>,
 ) -> Option<Reason> {
-    match (innermost, form.word) {
-        (None, b"on") => Some(NO_SEND),
-        (None, b"done") => Some(NOTHING_OPEN),
-        (Some(block), b"on") if block.is_repeat => Some(Reason::unclosed(block)),
-        (Some(_), b"on") if open.is_version_1 && is_new(word_at(words, 1)) => Some(VERSION),
-        (Some(_), b"on" | b"done") => None,
-        (Some(block), _) if !block.is_repeat && !block.is_begun => Some(Reason::armless(
-            block.line,
-        )),
-        (Some(block), b"break" | b"stop") if block.is_repeat && !block.is_begun => {
+    let is_on = is(form.word, b"on");
+    match innermost {
+        None if is_on => Some(NO_SEND),
+        None if is(form.word, b"done") => Some(NOTHING_OPEN),
+        Some(block) if is_on && block.is_repeat => Some(Reason::unclosed(block)),
+        Some(_) if is_on && open.is_version_1 && is_new(word_at(words, 1)) => Some(VERSION),
+        Some(_) if is_on || is(form.word, b"done") => None,
+        Some(block) if !block.is_repeat && !block.is_begun => Some(Reason::armless(block.line)),
+        Some(block) if block.is_repeat && !block.is_begun && is_leaving(form.word) => {
             Some(Reason::first_of_repeat(block.line))
         }
-        (_, b"break") if !open.is_in_repeat() => Some(NO_REPEAT),
-        (Some(_) | None, _) => None,
+        _ if is(form.word, b"break") && !open.is_in_repeat() => Some(NO_REPEAT),
+        Some(_) | None => None,
     }
+}
+
+fn is_leaving(word: &[u8]) -> bool {
+    is(word, b"break") || is(word, b"stop")
 }
 
 fn tell_reason<W: Write>(writer: &mut W, text: &[u8], reason: Reason) -> Result<(), WriteFault> {
@@ -244,7 +247,7 @@ fn tell_no_line<W: Write>(writer: &mut W, word: &[u8]) -> Result<(), WriteFault>
 fn nearest_form(word: &[u8]) -> Option<&'static Form> {
     let mut found = None;
     let mut fewest = usize::MAX;
-    for form in &FORMS {
+    for form in forms() {
         if let Some(edits) = edits(word, form.word)
             && edits < fewest
         {

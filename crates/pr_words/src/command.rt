@@ -19,31 +19,49 @@ const OPERATIONS: [(u8, &[u8]); 8] = [
 /// Writes a command: what the standard calls it, and its fields that count, as `REGISTER rk 0 sark b2`. Keys are in
 /// hexadecimal digits without leading zeros, blocks in decimal ones.
 pub fn put_command<W: Write>(writer: &mut W, command: &Command) -> Result<(), WriteFault> {
+    put(writer, name(command))?;
+    put_fields(writer, command)
+}
+
+fn name(command: &Command) -> &'static [u8] {
     match *command {
-        Command::TestUnitReady => put(writer, b"TEST UNIT READY"),
-        Command::RequestSense => put(writer, b"REQUEST SENSE"),
-        Command::Read { lba, blocks } => put_transfer(writer, b"READ", lba, blocks),
-        Command::Write { lba, blocks } => put_transfer(writer, b"WRITE", lba, blocks),
-        Command::ReadKeys { .. } => put(writer, b"READ KEYS"),
-        Command::ReadReservation { .. } => put(writer, b"READ RESERVATION"),
-        Command::ReportCapabilities { .. } => put(writer, b"REPORT CAPABILITIES"),
-        Command::Register { rk, sark } => {
-            put(writer, b"REGISTER")?;
-            put_keys(writer, rk, sark)
+        Command::TestUnitReady => b"TEST UNIT READY",
+        Command::RequestSense => b"REQUEST SENSE",
+        Command::Read { .. } => b"READ",
+        Command::Write { .. } => b"WRITE",
+        Command::ReadKeys { .. } => b"READ KEYS",
+        Command::ReadReservation { .. } => b"READ RESERVATION",
+        Command::ReportCapabilities { .. } => b"REPORT CAPABILITIES",
+        Command::Register { .. } => b"REGISTER",
+        Command::RegisterIgnore { .. } => b"REGISTER AND IGNORE EXISTING KEY",
+        Command::Reserve { .. } => b"RESERVE",
+        Command::Release { .. } => b"RELEASE",
+        Command::Clear { .. } => b"CLEAR",
+        Command::Preempt { .. } => b"PREEMPT",
+        Command::PreemptAbort { .. } => b"PREEMPT AND ABORT",
+    }
+}
+
+fn put_fields<W: Write>(writer: &mut W, command: &Command) -> Result<(), WriteFault> {
+    match *command {
+        Command::TestUnitReady
+        | Command::RequestSense
+        | Command::ReadKeys { .. }
+        | Command::ReadReservation { .. }
+        | Command::ReportCapabilities { .. } => Ok(()),
+        Command::Read { lba, blocks } | Command::Write { lba, blocks } => {
+            put_blocks(writer, lba, blocks)
         }
+        Command::Register { rk, sark } => put_keys(writer, rk, sark),
         Command::RegisterIgnore { sark } => {
-            put(writer, b"REGISTER AND IGNORE EXISTING KEY")?;
             put_spaced(writer, &[Token::Text(b"sark"), Token::Key(sark)])
         }
-        Command::Reserve { rk, kind } => put_held_by(writer, b"RESERVE", rk, kind),
-        Command::Release { rk, kind } => put_held_by(writer, b"RELEASE", rk, kind),
-        Command::Clear { rk } => {
-            put(writer, b"CLEAR")?;
-            put_spaced(writer, &[Token::Text(b"rk"), Token::Key(rk)])
+        Command::Reserve { rk, kind } | Command::Release { rk, kind } => {
+            put_kind_and_key(writer, kind, rk)
         }
-        Command::Preempt { rk, sark, kind } => put_preempt(writer, b"PREEMPT", rk, sark, kind),
-        Command::PreemptAbort { rk, sark, kind } => {
-            put_preempt(writer, b"PREEMPT AND ABORT", rk, sark, kind)
+        Command::Clear { rk } => put_spaced(writer, &[Token::Text(b"rk"), Token::Key(rk)]),
+        Command::Preempt { rk, sark, kind } | Command::PreemptAbort { rk, sark, kind } => {
+            put_kind_and_keys(writer, kind, rk, sark)
         }
     }
 }
@@ -77,13 +95,7 @@ fn operation(cdb: &[u8]) -> &'static [u8] {
     b"command"
 }
 
-fn put_transfer<W: Write>(
-    writer: &mut W,
-    name: &[u8],
-    lba: u32,
-    blocks: u16,
-) -> Result<(), WriteFault> {
-    put(writer, name)?;
+fn put_blocks<W: Write>(writer: &mut W, lba: u32, blocks: u16) -> Result<(), WriteFault> {
     put_spaced(
         writer,
         &[
@@ -94,13 +106,7 @@ fn put_transfer<W: Write>(
     )
 }
 
-fn put_held_by<W: Write>(
-    writer: &mut W,
-    name: &[u8],
-    rk: u64,
-    kind: Kind,
-) -> Result<(), WriteFault> {
-    put(writer, name)?;
+fn put_kind_and_key<W: Write>(writer: &mut W, kind: Kind, rk: u64) -> Result<(), WriteFault> {
     put_spaced(
         writer,
         &[
@@ -112,14 +118,12 @@ fn put_held_by<W: Write>(
     )
 }
 
-fn put_preempt<W: Write>(
+fn put_kind_and_keys<W: Write>(
     writer: &mut W,
-    name: &[u8],
+    kind: Option<Kind>,
     rk: u64,
     sark: u64,
-    kind: Option<Kind>,
 ) -> Result<(), WriteFault> {
-    put(writer, name)?;
     let kind = match kind {
         Some(kind) => Token::Number(u64::from(kind.code())),
         None => Token::Text(b"none"),
