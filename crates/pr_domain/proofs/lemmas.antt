@@ -1,5 +1,4 @@
 pub mod Outcomes
-pub mod Permitting
 pub mod Reporting
 pub mod Starting
 pub mod Tallies

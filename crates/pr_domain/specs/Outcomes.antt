@@ -1,18 +1,14 @@
 -- Agrees with docs/VIEWS.md, 'What becomes of a view'.
 -- What a host's own command may come to.
-use Rattle.std.specs.Prelude.{◌≡◌, true, false, IsTrue, List}
+use Rattle.std.specs.Prelude.{◌≡◌, List}
 use Rattle.std.specs.List.{Contains}
 use Rattle.pr_cdb.specs.declared.command.Command.{Command}
 use Rattle.pr_cdb.specs.declared.reply.Reply.{Reply}
 use Rattle.pr_cdb.specs.declared.wire.Request.TheVariants.{Plain}
 use Rattle.pr_unit.specs.UnitStates.{UnitState}
-use Rattle.pr_unit.specs.Replies.{is_good}
-use Rattle.pr_unit.specs.Steps.{Step}
 use Rattle.pr_script.specs.declared.script.Test.{Test}
-use Rattle.pr_roles.specs.declared.role.Clause.{Clause}
 use Rattle.pr_roles.specs.declared.how.Refusals.{Refusals}
 use Rattle.pr_roles.specs.DeclaredRefusals.{Answered}
-use Rattle.pr_roles.specs.Permits.{command_permitted}
 use Rattle.pr_views.specs.Possibilities.{Item, IsSo}
 use Rattle.pr_views.specs.Views.{View, IsPossible, Shows}
 use Rattle.pr_domain.specs.declared.landing.Landing.{Landing}
@@ -46,19 +42,3 @@ pub record AreOutcomes (v : View) (d : Refusals) (c : Command) (tests : List Tes
   pub only : (o : Outcome) (i : Item) → Contains outcomes o → IsPossible o.1 i → Lands v d c tests o.0 i
   pub come : (o : Outcome) → Contains outcomes o → (i : Item) × IsPossible o.1 i
   pub once : (l : Landing) (w x : View) → Contains outcomes (l, w) → Contains outcomes (l, x) → w ≡ x
-
--- in each shown state in which the owner's command ends GOOD, the role permits it
-abbrev pub IsPermittedIn : View → List Clause → Command → Type 0
-IsPermittedIn v role c =
-    (u : UnitState) (r : Reply) (w : UnitState) → Shows v u → Step u v.scope.own (Plain c) r w → is_good r ≡ true
-    → IsTrue (command_permitted role u.registry v.scope.own c)
-
--- in some shown state the owner's command ends GOOD, and the role does not permit it
-pub record IsRefusedIn (v : View) (role : List Clause) (c : Command) : Type 0 where
-  pub from : UnitState
-  pub shown : Shows v from
-  pub reply : Reply
-  pub after : UnitState
-  pub step : Step from v.scope.own (Plain c) reply after
-  pub good : is_good reply ≡ true
-  pub refused : command_permitted role from.registry v.scope.own c ≡ false

@@ -1,7 +1,5 @@
-pub mod Askings
 pub mod Beginning
 pub mod Owners
-pub mod Permitting
 pub mod Ranges
 pub mod Reporting
 pub mod Sendings

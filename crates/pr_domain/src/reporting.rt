@@ -15,9 +15,8 @@ ghost use Rattle.pr_unit.specs.Replies.{report};
 ghost use Rattle.pr_views.specs.Portions.{view_in};
 ghost use Rattle.pr_domain.specs.Landings.{IsClass};
 ghost use Rattle.pr_domain.specs.declared.tally.TheConstants.{WAYS};
-ghost use Rattle.pr_domain.specs.inside.Permitting.{scope_at};
 ghost use Rattle.pr_domain.specs.inside.Reporting.{AreBlind, AreMore, AreCalm, AreQuiet, Reports, Conflicts, Fails, EndsGood, Refuses, refusal, IsLater};
-ghost use Rattle.pr_domain.specs.inside.Tallies.{IsTally};
+ghost use Rattle.pr_domain.specs.inside.Tallies.{IsTally, scope_at};
 
 use crate::arms::landing_of;
 use crate::attentions::{after_report, those_without};

@@ -217,7 +217,7 @@ fn add_readings(
 }
 
 /// The key of a registration, if it has one.
-pub(crate) fn key_at(keys: &[u64], registration: u8) -> Option<u64>
+pub fn key_at(keys: &[u64], registration: u8) -> Option<u64>
     ensures { result ≡ key_at keys.now registration }
 {
     if registration == 0 {

@@ -41,13 +41,14 @@ pub use Rattle.pr_views.specs.declared.view.ViewOf.{ViewOf}
 pub use Rattle.pr_views.proofs.lemmas.Views.ShownStates.{shown_within}
 pub use Rattle.pr_views.proofs.lemmas.Views.Values.{fits}
 pub use Rattle.pr_domain.specs.Landings.{IsLanding}
-pub use Rattle.pr_domain.specs.Outcomes.{Outcome, IsExpected, AreOutcomes, IsPermittedIn, IsRefusedIn}
+pub use Rattle.pr_domain.specs.Outcomes.{Outcome, IsExpected, AreOutcomes}
 pub use Rattle.pr_domain.specs.Starting.{IsOfStart}
 pub use Rattle.pr_domain.specs.declared.landing.Class.{Class}
 pub use Rattle.pr_domain.specs.declared.landing.Landing.{Landing}
 pub use Rattle.pr_domain.specs.declared.landing.Landing.TheVariants.{NoArm, Arm}
 pub use Rattle.pr_domain.proofs.lemmas.Outcomes.Coverage.{contains_from_get}
 pub use Rattle.pr_domain.proofs.lemmas.Starting.WrittenNumbers.{are_counted}
+pub use Rattle.pr_permission.specs.Permission.{IsPermittedIn, IsRefusedIn}
 pub use Rattle.pr_interference.specs.Interference.{IsDone, Becomes, by_another, by_reset, IsClosed, IsClosure}
 pub use Rattle.pr_interference.specs.inside.Interfering.{Among}
 pub use Rattle.pr_verify.specs.LeastOutlines.{IsWithinIn, IsNoMore, IsLeastSound}

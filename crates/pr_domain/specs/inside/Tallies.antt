@@ -163,6 +163,10 @@ pub record IsOwners (s : Scope) (keys : List ℕ) (view : Possibilities) (place 
   pub same_keys : s.keys ≡ keys
   pub is : IsPlace s view place
 
+-- the scope of these nexuses and keys, whose owner is the sender
+abbrev pub scope_at : List ℕ → ℕ → ℕ → Scope
+scope_at keys hosts sender = record { own = sender; hosts = hosts; keys = keys }
+
 -- the possibilities are a view of this scope, of these nexuses and keys
 pub record IsOfScope (s : Scope) (hosts own : ℕ) (keys : List ℕ) (view : Possibilities) : Type 0 where
   pub same_hosts : s.hosts ≡ hosts

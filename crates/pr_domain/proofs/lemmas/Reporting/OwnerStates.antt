@@ -1,5 +1,5 @@
 -- What is pending for the owner, and who is registered, after a command of the owner's.
-use Rattle.pr_domain.proofs.Common.{◌≡◌, ℕ, suc, ◌≤◌, Bool, true, false, not, ◌&&◌, ◌||◌, ◌⊎◌, List, [], ◌∷◌, length, if◌then◌else◌, ◌==◌, slice_get, Some, None, Option, sym, refl, ap, ◌∙◌, subst, inl, inr, arith, lit<, list_any, false≢true, and_parts, or_cases, nat_tests, slice_get_within, Command, code_of, codes_of, Attention, State, key_of, UnitState, is_pending, is_any_pending, effect, after_report, is_written_key, is_written, Scope, key_at, Attentions, IsSo}
+use Rattle.pr_domain.proofs.Common.{◌≡◌, ℕ, suc, ◌≤◌, Bool, true, false, not, ◌&&◌, ◌||◌, ◌⊎◌, List, [], ◌∷◌, length, if◌then◌else◌, ◌==◌, slice_get, Some, None, Option, sym, refl, ap, ◌∙◌, subst, inl, inr, arith, lit<, list_any, false≢true, and_parts, or_cases, nat_tests, slice_get_within, Command, power_on, reservations_preempted, reservations_released, registrations_preempted, code_of, codes_of, Attention, State, key_of, UnitState, is_pending, is_any_pending, effect, after_report, is_written_key, is_written, Scope, key_at, Attentions, IsSo}
 use Rattle.std.specs.FinSet as set
 use Rattle.std.specs.FinMap as map
 use Rattle.std.proofs.lemmas.Bool.{false_from_ne_true}
@@ -40,6 +40,15 @@ reported_after s u a q n so there left =
     (left.0, sym (so.1 (code_of a)) ∙ there, same_codes _ _ (λ code. sym (left.1 code) ∙ left_after s u a q so code))
 
 -- ---- nothing pending
+
+pub none_of_zero : (code : ℕ) → set.contains (codes_of 0) code ≡ false
+none_of_zero code = ap (λ (s : set.FinSet _). set.contains s code) codes_of-zero ∙ contains-no_code code
+
+pub idle_from_zero : (s : Scope) (u : UnitState) → IsSo s u (Attentions 0) → is_any_pending u s.own ≡ false
+idle_from_zero s u so = rw (none power_on, none reservations_preempted, none reservations_released, none registrations_preempted) refl
+  where
+    none : (code : ℕ) → is_pending u s.own code ≡ false
+    none code = so.1 code ∙ none_of_zero code
 
 pub quiet_number : (s : Scope) (u : UnitState) (q : ℕ) → IsSo s u (Attentions q) → is_any_pending u s.own ≡ false → q ≡ 0
 quiet_number s u q so quiet =

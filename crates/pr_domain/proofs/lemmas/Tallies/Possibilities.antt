@@ -4,8 +4,7 @@ use Rattle.std.specs.FinSet as set
 use Rattle.std.proofs.lemmas.Bool.{lt-ltb}
 use Rattle.pr_views.proofs.lemmas.Possibilities.Numbers.{one_attentions}
 use Rattle.pr_domain.specs.inside.Reporting.{AreCalm, AreQuiet, MayReport}
-use Rattle.pr_domain.proofs.lemmas.Reporting.OwnerStates.{after_reported, reported_after, quiet_number, untold_pending}
-use Rattle.pr_domain.proofs.lemmas.Permitting.IdleCommands.{idle_from_zero}
+use Rattle.pr_domain.proofs.lemmas.Reporting.OwnerStates.{after_reported, reported_after, idle_from_zero, quiet_number, untold_pending}
 use Rattle.pr_domain.proofs.lemmas.Tallies.Origins.{so_from_registered, still_registered, IsWay, IsTold}
 
 -- ---- what a tally has

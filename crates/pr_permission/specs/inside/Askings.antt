@@ -3,9 +3,9 @@ use Rattle.std.specs.Prelude.{ℕ}
 use Rattle.pr_views.specs.Possibilities.{Scope, Reservation, IsSo}
 use Rattle.pr_views.specs.Views.{View}
 use Rattle.pr_views.specs.Portions.{view_in}
-use Rattle.pr_domain.specs.declared.permitting.Asking.{Asking}
-use Rattle.pr_domain.specs.inside.Permitting.{scope_at, ArePermitted, IsOneRefused}
-use Rattle.pr_domain.specs.inside.Tallies.{HasBoth}
+use Rattle.pr_domain.specs.inside.Tallies.{HasBoth, scope_at}
+use Rattle.pr_permission.specs.declared.permitting.Asking.{Asking}
+use Rattle.pr_permission.specs.inside.Permitting.{ArePermitted, IsOneRefused}
 
 -- the scope of the place's sender
 abbrev pub scope_of_asking : Asking → Scope

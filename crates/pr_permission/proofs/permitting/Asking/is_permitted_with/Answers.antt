@@ -1,9 +1,9 @@
-use Rattle.pr_domain.proofs.Common.{◌≡◌, ℕ, ◌<◌, ◌≤◌, false, not, ◌||◌, ◌⊎◌, List, length, Option, sym, ap, ◌∙◌, subst, inl, inr, option_map_or, cases_lt, has, BitSet, has_at, holds_at-get_or, scope_at}
+use Rattle.pr_permission.proofs.Common.{◌≡◌, ℕ, ◌<◌, ◌≤◌, false, not, ◌||◌, ◌⊎◌, List, length, Option, sym, ap, ◌∙◌, subst, inl, inr, option_map_or, cases_lt, has, BitSet, has_at, holds_at-get_or, scope_at}
 use Rattle.std.proofs.Common.{slice_index_or}
 use Rattle.std.proofs.lemmas.Option.{slice_get_past}
 use Rattle.std.proofs.Math.Bool.{or-false}
-use Rattle.pr_domain.proofs.lemmas.Permitting.Permissions.{asked_at, not_registered, permitted_by_clauses, one_registration_permitted}
-use Rattle.pr_domain.proofs.permitting.Asking.is_permitted_with.Goals as goal
+use Rattle.pr_permission.proofs.lemmas.Permitting.Permissions.{asked_at, not_registered, permitted_by_clauses, one_registration_permitted}
+use Rattle.pr_permission.proofs.permitting.Asking.is_permitted_with.Goals as goal
 
 not_at : (words : List BitSet) (g r : ℕ) → has (slice_index_or words g (record { bits = 0 })) r ≡ false → has_at words g r ≡ false
 not_at words g r none = at (cases_lt g (length words))

@@ -1,5 +1,5 @@
-use Rattle.pr_domain.proofs.Common.{◌+◌, ◌-◌, ◌*◌, ◌≤◌, view_in, ArePermitted, scope_at, IsReserved}
-use Rattle.pr_domain.proofs.permitting.is_permitted_under_each.Given as goal
+use Rattle.pr_permission.proofs.Common.{◌+◌, ◌-◌, ◌*◌, ◌≤◌, view_in, ArePermitted, scope_at, IsReserved}
+use Rattle.pr_permission.proofs.permitting.is_permitted_under_each.Given as goal
 
 abbrev pub invariant-loop-reservation : goal.invariant-loop-reservation
 invariant-loop-reservation l =

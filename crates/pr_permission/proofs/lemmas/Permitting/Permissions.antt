@@ -1,5 +1,5 @@
 -- Where a command ends GOOD, and what a role says of it there.
-use Rattle.pr_domain.proofs.Common.{MOST_REGISTRATIONS, ◌≡◌, ℕ, zero, suc, ◌+◌, ◌<◌, ◌≤◌, Bool, true, false, not, ◌&&◌, ◌||◌, ◌⊎◌, ◌↔◌, List, [], ◌∷◌, length, is_some, IfSome, IfNone, IsTrue, ◌==◌, slice_get, Some, None, All, Contains, Option, sym, refl, ap, ◌∙◌, subst, inl, inr, arith, list_any, false≢true, and_parts, cases_order, cases_eq, nat_tests, same_Some, has_wide, has, BitSet, Command, Sense, State, key_of, UnitState, is_written_key, is_written, has_at, view_in, Scope, key_at, count_of_reservations, Registration, Reservation, IsSo, View, Shows, Possibilities, one_registration, IsPlace, IsUniform, IsAt, purpose_of, is_refused, standing_of, AreBranches, Place, Branch, Transition, same_reservation, ArePermitted, scope_at, IsRight, IsInOne, HasFirst, HasBoth, IsReserved}
+use Rattle.pr_permission.proofs.Common.{MOST_REGISTRATIONS, ◌≡◌, ℕ, zero, suc, ◌+◌, ◌<◌, ◌≤◌, Bool, true, false, not, ◌&&◌, ◌||◌, ◌⊎◌, ◌↔◌, List, [], ◌∷◌, length, is_some, IfSome, IfNone, IsTrue, ◌==◌, slice_get, Some, None, All, Contains, Option, sym, refl, ap, ◌∙◌, subst, inl, inr, arith, list_any, false≢true, and_parts, cases_order, cases_eq, nat_tests, same_Some, has_wide, has, BitSet, Command, Sense, State, key_of, UnitState, is_written_key, is_written, has_at, view_in, Scope, key_at, count_of_reservations, Registration, Reservation, IsSo, View, Shows, Possibilities, one_registration, IsPlace, IsUniform, IsAt, purpose_of, is_refused, standing_of, AreBranches, Place, Branch, Transition, same_reservation, ArePermitted, scope_at, IsRight, IsInOne, HasFirst, HasBoth, IsReserved}
 use Rattle.std.proofs.Common.{is_none}
 use Rattle.std.proofs.lemmas.List.Folds.{Any-from_list_any, list_any-from_Any}
 use Rattle.pr_cdb.specs.declared.command.Command.TheVariants as command
@@ -17,8 +17,8 @@ use Rattle.pr_regions.specs.Purposes.{names_written}
 use Rattle.pr_regions.specs.Regions.{Ends, IsProper as IsProperBranch}
 use Rattle.pr_regions.specs.Gathering.{IsProper, IsGathered}
 use Rattle.pr_domain.specs.inside.Tallies.{IsAsked}
-use Rattle.pr_domain.specs.declared.permitting.Asking.{Asking}
-use Rattle.pr_domain.specs.inside.Permitting.{EndsGood, IsAsking, permits_at, IsReached, IsOneReached, IsOneRefused, permits_always}
+use Rattle.pr_permission.specs.declared.permitting.Asking.{Asking}
+use Rattle.pr_permission.specs.inside.Permitting.{EndsGood, IsAsking, permits_at, IsReached, IsOneReached, IsOneRefused, permits_always}
 use Rattle.pr_regions.proofs.lemmas.Conditions.Senders.{holds_by}
 use Rattle.pr_regions.proofs.lemmas.Portions.GatheredStates.{few_keys}
 use Rattle.pr_domain.proofs.lemmas.Tallies.Growth.{listed_there}

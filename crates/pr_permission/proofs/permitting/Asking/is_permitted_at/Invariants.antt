@@ -1,6 +1,6 @@
-use Rattle.pr_domain.proofs.Common.{◌-◌, ◌≤◌, ArePermitted, HasFirst, MOST_REGISTRATIONS}
-use Rattle.pr_domain.specs.inside.Askings.{scope_of_asking, view_of_asking}
-use Rattle.pr_domain.proofs.permitting.Asking.is_permitted_at.Given as goal
+use Rattle.pr_permission.proofs.Common.{◌-◌, ◌≤◌, ArePermitted, HasFirst, MOST_REGISTRATIONS}
+use Rattle.pr_permission.specs.inside.Askings.{scope_of_asking, view_of_asking}
+use Rattle.pr_permission.proofs.permitting.Asking.is_permitted_at.Given as goal
 
 abbrev pub invariant-loop-registration : goal.invariant-loop-registration
 invariant-loop-registration l =

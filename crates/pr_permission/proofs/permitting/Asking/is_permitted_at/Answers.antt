@@ -1,6 +1,6 @@
-use Rattle.pr_domain.proofs.Common.{◌≡◌, subst, arith, view_in, Reservation, IsSo, ArePermitted, scope_at, HasFirst, HasBoth, MOST_REGISTRATIONS}
-use Rattle.pr_domain.proofs.lemmas.Permitting.Permissions.{asked_at, each_registration, refused_as}
-use Rattle.pr_domain.proofs.permitting.Asking.is_permitted_at.Goals as goal
+use Rattle.pr_permission.proofs.Common.{◌≡◌, subst, arith, view_in, Reservation, IsSo, ArePermitted, scope_at, HasFirst, HasBoth, MOST_REGISTRATIONS}
+use Rattle.pr_permission.proofs.lemmas.Permitting.Permissions.{asked_at, each_registration, refused_as}
+use Rattle.pr_permission.proofs.permitting.Asking.is_permitted_at.Goals as goal
 
 pub returns-then-not-is_permitted_with-clause-refused : goal.returns-then-not-is_permitted_with-clause-refused
 returns-then-not-is_permitted_with-clause-refused c denied =

@@ -1,7 +1,7 @@
-use Rattle.pr_domain.proofs.Common.{◌≡◌, ◌-◌, ◌≤◌, true, length, All, has, view_in, Scope, IsPlace, IsUniform}
+use Rattle.pr_permission.proofs.Common.{◌≡◌, ◌-◌, ◌≤◌, true, length, All, has, view_in, Scope, IsPlace, IsUniform}
 use Rattle.pr_regions.specs.Regions.{IsProper as IsProperBranch}
-use Rattle.pr_domain.specs.inside.Permitting.{IsOneReached}
-use Rattle.pr_domain.proofs.permitting.is_one_reached.Given as goal
+use Rattle.pr_permission.specs.inside.Permitting.{IsOneReached}
+use Rattle.pr_permission.proofs.permitting.is_one_reached.Given as goal
 
 abbrev pub invariant-loop-i : goal.invariant-loop-i
 invariant-loop-i l =

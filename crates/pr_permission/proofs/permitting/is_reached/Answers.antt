@@ -1,5 +1,5 @@
-use Rattle.pr_domain.proofs.lemmas.Permitting.Permissions.{is_reached}
-use Rattle.pr_domain.proofs.permitting.is_reached.Goals as goal
+use Rattle.pr_permission.proofs.lemmas.Permitting.Permissions.{is_reached}
+use Rattle.pr_permission.proofs.permitting.is_reached.Goals as goal
 
 pub returns-in-Good : goal.returns-in-Good
 returns-in-Good c s is uniform idle proper =

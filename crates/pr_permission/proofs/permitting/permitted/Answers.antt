@@ -1,6 +1,6 @@
-use Rattle.pr_domain.proofs.Common.{sym, refl, ◌∙◌, view_of}
-use Rattle.pr_domain.proofs.lemmas.Permitting.IdleCommands.{permitted_of_busy, permitted_of_words, refused_of_words}
-use Rattle.pr_domain.proofs.permitting.permitted.Goals as goal
+use Rattle.pr_permission.proofs.Common.{sym, refl, ◌∙◌, view_of}
+use Rattle.pr_permission.proofs.lemmas.Permission.WholeViews.{permitted_of_busy, permitted_of_words, refused_of_words}
+use Rattle.pr_permission.proofs.permitting.permitted.Goals as goal
 
 pub returns-then-not-has-clause-permitted : goal.returns-then-not-has-clause-permitted
 returns-then-not-has-clause-permitted g c is =

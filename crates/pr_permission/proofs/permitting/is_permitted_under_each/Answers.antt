@@ -1,6 +1,6 @@
-use Rattle.pr_domain.proofs.Common.{sym, ◌∙◌, view_in, Reservation, IsSo, scope_at}
-use Rattle.pr_domain.proofs.lemmas.Permitting.Permissions.{refused_as, permitted_always}
-use Rattle.pr_domain.proofs.permitting.is_permitted_under_each.Goals as goal
+use Rattle.pr_permission.proofs.Common.{sym, ◌∙◌, view_in, Reservation, IsSo, scope_at}
+use Rattle.pr_permission.proofs.lemmas.Permitting.Permissions.{refused_as, permitted_always}
+use Rattle.pr_permission.proofs.permitting.is_permitted_under_each.Goals as goal
 
 pub returns-then-not-is_permitted_at-clause-refused : goal.returns-then-not-is_permitted_at-clause-refused
 returns-then-not-is_permitted_at-clause-refused c denied =

@@ -9,11 +9,12 @@ ghost use Rattle.pr_sets.specs.Wides.{has_wide};
 ghost use Rattle.pr_views.specs.Portions.{view_in};
 ghost use Rattle.pr_views.specs.Rooms.{view_of};
 ghost use Rattle.pr_views.specs.Views.{Fits};
-ghost use Rattle.pr_domain.specs.Outcomes.{IsPermittedIn, IsRefusedIn};
-ghost use Rattle.pr_domain.specs.inside.Permitting.{scope_at, IsAsking, PermitsAll, RefusesOne, TellsReached, TellsOneReached, permits_at, permits_always};
+ghost use Rattle.pr_domain.specs.inside.Tallies.{scope_at};
+ghost use Rattle.pr_permission.specs.Permission.{IsPermittedIn, IsRefusedIn};
+ghost use Rattle.pr_permission.specs.inside.Permitting.{IsAsking, PermitsAll, RefusesOne, TellsReached, TellsOneReached, permits_at, permits_always};
 
-use crate::tallying::key_at;
 use pr_cdb::Command;
+use pr_domain::key_at;
 use pr_regions::{
     Branch, Ending, Place, branches, is_refused, purpose_of, reservation_at, standing_of,
 };
@@ -124,7 +125,7 @@ struct Asking<'a> {
 }
 
 impl Asking<'_> {
-    ghost use Rattle.pr_domain.specs.inside.Askings.{PermitsAt, RefusesAt, PermitsWith, RefusesWith};
+    ghost use Rattle.pr_permission.specs.inside.Askings.{PermitsAt, RefusesAt, PermitsWith, RefusesWith};
 
     // Whether some clause permits it with each registration with which it can end GOOD at this place.
     fn is_permitted_at(&self) -> bool

@@ -1,6 +1,6 @@
-use Rattle.pr_domain.proofs.Common.{sym, refl, ◌∙◌, arith, false≢true, slice_get-get_or, view_in}
-use Rattle.pr_domain.proofs.lemmas.Permitting.Permissions.{more_unreached}
-use Rattle.pr_domain.proofs.permitting.is_one_reached.Goals as goal
+use Rattle.pr_permission.proofs.Common.{sym, refl, ◌∙◌, arith, false≢true, slice_get-get_or, view_in}
+use Rattle.pr_permission.proofs.lemmas.Permitting.Permissions.{more_unreached}
+use Rattle.pr_permission.proofs.permitting.is_one_reached.Goals as goal
 
 pub returns-then-is_reached : goal.returns-then-is_reached
 returns-then-is_reached c s is uniform idle proper =

@@ -21,6 +21,7 @@ use Rattle.pr_regions.specs.declared.place.Place.{Place}
 use Rattle.pr_regions.specs.Conditions.{holds_as}
 use Rattle.pr_regions.specs.Regions.{IsProper as IsProperBranch}
 use Rattle.pr_regions.specs.Gathering.{IsPlace, IsUniform, IsProper, IsThere}
+use Rattle.pr_domain.specs.inside.Tallies.{scope_at}
 
 -- nothing is pending for the owner, and its command neither conflicts nor is at fault
 pub record EndsGood (s : Scope) (c : Command) (u : UnitState) : Type 0 where
@@ -43,10 +44,6 @@ pub record IsOneRefused (v : View) (clauses : List Clause) (c : Command) (Among 
   pub refused : list_any (λ clause. clause_permits clause unit.registry v.scope.own c) clauses ≡ false
 
 -- ---- who asks
-
--- the sender is the owner
-abbrev pub scope_at : List ℕ → ℕ → ℕ → Scope
-scope_at keys hosts sender = record { own = sender; hosts = hosts; keys = keys }
 
 -- What is known of a command and of the view of its sender: a text can have the command, and for the sender it is
 -- possible that nothing is pending.

@@ -1,0 +1,2 @@
+pub mod Askings
+pub mod Permitting
