@@ -4,9 +4,10 @@ ghost use Rattle.std.specs.Prelude.{◌≡◌, ◌<◌, ◌↔◌, IsTrue, lengt
 ghost use Rattle.std.specs.List.{All};
 ghost use Rattle.pr_roles.specs.Scenarios.{scenario_of};
 
+use pr_audit::End;
 use pr_roles::{Scenario, Word};
 use pr_text::read;
-use pr_world::{End, replay};
+use pr_world::replay;
 use std::alloc::{AllocError, Global};
 use std::test::Fail;
 

@@ -10,9 +10,8 @@ ghost use Rattle.pr_report.specs.TraceReadings.{FaultsTrace, ReadsTrace};
 
 use pr_faults::{write_text_fault, write_trace_fault};
 use pr_report::{TraceError, read_trace};
-use pr_roles::Scenario;
+use pr_roles::{Item, Scenario};
 use pr_text::{ReadError, read_with_text};
-use pr_world::Item;
 use std::alloc::Global;
 use std::io::{Read, Write};
 

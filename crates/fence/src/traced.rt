@@ -10,9 +10,8 @@ ghost use Rattle.fence.specs.inside.Traced.{IsTraced};
 
 use crate::told::{read_and_tell, read_trace_and_tell};
 use pr_commands::{ExitStatus, Fault, ended};
-use pr_roles::Scenario;
+use pr_roles::{Item, Scenario};
 use pr_words::{Telling, telling_of, write_telling};
-use pr_world::Item;
 use std::alloc::Global;
 use std::io::{Read, Write};
 

@@ -9,7 +9,7 @@ use Rattle.pr_roles.specs.declared.item.Item.{Item}
 use Rattle.pr_roles.specs.Scenarios.{Scenario}
 use Rattle.pr_text.specs.declared.fault.ReadError.{ReadError}
 use Rattle.pr_text.specs.Reading.{IsWrittenAs}
-use Rattle.pr_world.specs.Audits.{IsLegalFromFirst, IsFirstIllegal}
+use Rattle.pr_audit.specs.Audits.{IsLegalFromFirst, IsFirstIllegal}
 use Rattle.pr_report.specs.declared.trace_error.TraceError.{TraceError}
 use Rattle.pr_report.specs.declared.verdict.Verdict.{Verdict}
 use Rattle.pr_report.specs.declared.verdict.Verdict.TheVariants.{Accepted, Refused, Legal, Illegal}

@@ -1,6 +1,6 @@
 -- Agrees with docs/FORMATS.md, 'Replaying'.
 -- What `fence replay` writes.
-use Rattle.std.specs.Prelude.{◌≡◌, ℕ, Bool, true, false, IsTrue, List, Option, Some, None, IfSome, Result, Err}
+use Rattle.std.specs.Prelude.{◌≡◌, ℕ, Bool, true, false, IsTrue, List, map, Option, Some, None, IfSome, Result, Err}
 use Rattle.std.specs.List.{list_any}
 use Rattle.pr_unit.specs.UnitStates.{UnitState}
 use Rattle.pr_roles.specs.declared.step.Step.{Step}
@@ -8,8 +8,11 @@ use Rattle.pr_roles.specs.Scenarios.{Scenario}
 use Rattle.pr_roles.specs.FirstStarts.{first_state}
 use Rattle.pr_roles.specs.Worlds.{is_trapped}
 use Rattle.pr_roles.specs.Schedules.{Schedule, ScheduledRun, schedule_from}
+use Rattle.pr_audit.specs.Ends.{ending_of}
+use Rattle.pr_world.specs.declared.replaying.Replayed.{Replayed}
+use Rattle.pr_world.specs.Replays.{IsEndOf}
 use Rattle.pr_text.specs.Reading.{IsWrittenAs}
-use Rattle.pr_report.specs.TraceText.{names_in}
+use Rattle.pr_report.specs.TraceText.{names_in, trace_text}
 use Rattle.pr_report.specs.Traces.{IsTraceOf as IsTraceOfSchedule}
 use Rattle.pr_commands.specs.declared.fault.Fault.{Fault}
 use Rattle.pr_commands.specs.declared.fault.Fault.TheVariants as fault
@@ -40,3 +43,9 @@ IsUsageFault steps text false = (s : Scenario) × IsWrittenAs text s × (steps_o
 pub record EndsReplay (steps : List (List ℕ)) (known old new : Option (List ℕ)) (r : Result Bool Fault) : Type 0 where
   pub outputs : Outputs (IsTraceOf steps) (IfSome known (λ text. IsUsageFault steps text (has_wrong_count steps))) (λ e. ⊥) (λ name. ⊥) ⊥ known old new r
   pub counted : IsTrue (has_wrong_count steps) → r ≡ Err fault.Usage
+
+-- what a replay answers has the trace of its run
+abbrev pub ReplaysAreTraced : Type 0
+ReplaysAreTraced =
+    (s : Scenario) (y : Schedule) (r : Replayed) → IsEndOf y r
+    → IsTraceOfSchedule s y (trace_text s.version (names_in s) r.history.items r.unit.registry (map ending_of r.ends.items) r.counts.items)

@@ -9,7 +9,7 @@ use Rattle.pr_roles.specs.Worlds.{commands_by}
 use Rattle.pr_text.specs.Reading.{IsWrittenAs}
 use Rattle.pr_verify.specs.declared.refusal.Refusal.{Refusal}
 use Rattle.pr_verify.specs.Verdicts.{IsFirstReason}
-use Rattle.pr_world.specs.Ends.{ending_of}
+use Rattle.pr_audit.specs.Ends.{ending_of}
 use Rattle.pr_shared.specs.declared.outcome.Outcome.{Outcome}
 use Rattle.pr_shared.specs.Outcomes.{IsOutcome}
 use Rattle.pr_report.specs.TraceText.{name_of, names_in, trace_text}

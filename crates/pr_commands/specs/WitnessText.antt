@@ -12,7 +12,7 @@ use Rattle.pr_registry.specs.declared.held.Held.{Held}
 use Rattle.pr_unit.specs.UnitStates.{UnitState, is_pending}
 use Rattle.pr_roles.specs.declared.item.Item.{Item}
 use Rattle.pr_roles.specs.declared.item.Item.TheVariants.{Sent, Reset}
-use Rattle.pr_world.specs.Ends.{ending_of}
+use Rattle.pr_audit.specs.Ends.{ending_of}
 use Rattle.pr_output.specs.PrintedLines.{line, attention_word, class_word, generation_word, key_word}
 use Rattle.pr_report.specs.TraceText.{held_word, name_of, trace_body}
 use Rattle.pr_report.specs.Verdicts.{no_arm_words, place_words}

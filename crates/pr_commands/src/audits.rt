@@ -12,10 +12,10 @@ ghost use Rattle.pr_commands.specs.inside.Audited.{IsAudited};
 
 use crate::ending::ended;
 use crate::fault::{ExitStatus, Fault};
+use pr_audit::{AuditError, audit};
 use pr_report::{Verdict, read_trace, write_verdict};
-use pr_roles::Scenario;
+use pr_roles::{Item, Scenario};
 use pr_text::read;
-use pr_world::{AuditError, Item, audit};
 use std::alloc::Global;
 use std::io::{Read, Write};
 

@@ -18,7 +18,7 @@ pub use Rattle.pr_roles.specs.declared.parts.Parts.{Parts}
 pub use Rattle.pr_views.specs.Possibilities.{key_at, number_of, count_of_attentions}
 pub use Rattle.pr_views.specs.Rooms.{view_of}
 pub use Rattle.pr_verify.specs.Rooms.{row_of}
-pub use Rattle.pr_world.specs.Ends.{ending_of}
+pub use Rattle.pr_audit.specs.Ends.{ending_of}
 pub use Rattle.pr_report.specs.BytesTaken.{bytes_of_lines}
 pub use Rattle.pr_report.specs.EntryWords.{pairs_in}
 pub use Rattle.pr_report.specs.OutlineText.{free_or_key, codes_in, sends_text}

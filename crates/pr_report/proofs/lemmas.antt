@@ -6,6 +6,5 @@ pub mod OutlineText
 pub mod TraceLaws
 pub mod TraceReadings
 pub mod TraceText
-pub mod Traces
 pub mod Verdicts
 pub mod WordsWritten

@@ -14,7 +14,7 @@ use Rattle.pr_roles.specs.declared.item.Item.{Item}
 use Rattle.pr_roles.specs.declared.item.Item.TheVariants.{Sent, Reset}
 use Rattle.pr_roles.specs.Scenarios.{Scenario}
 use Rattle.pr_roles.specs.Fitting.{Fits}
-use Rattle.pr_world.specs.Ends.{Ending, stops, waits, traps, leaves}
+use Rattle.pr_audit.specs.Ends.{Ending, stops, waits, traps, leaves}
 use Rattle.pr_report.specs.Versions.{has_resets, has_status, most_data, most_items}
 use Rattle.pr_report.specs.TraceText.{names_in, trace_text}
 use Rattle.pr_report.specs.TraceReadings.{trace_of}

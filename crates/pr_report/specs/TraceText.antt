@@ -17,7 +17,7 @@ use Rattle.pr_roles.specs.declared.item.Item.TheVariants.{Sent, Reset}
 use Rattle.pr_roles.specs.declared.parts.Nexus.{Nexus as NexusPart}
 use Rattle.pr_roles.specs.declared.parts.Parts.{Parts}
 use Rattle.pr_roles.specs.Scenarios.{Scenario, scenario_of}
-use Rattle.pr_world.specs.Ends.{Ending, stops, waits, traps, leaves}
+use Rattle.pr_audit.specs.Ends.{Ending, stops, waits, traps, leaves}
 use Rattle.pr_output.specs.PrintedLines.{line, pairs_or_dash, generation_word, holder_word, registration_word}
 
 -- the names of the nexuses, in the order of their numbers

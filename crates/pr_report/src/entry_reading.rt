@@ -18,9 +18,8 @@ use arrayvec::ArrayVec;
 use itoa::Buffer;
 use pr_cdb::codes::{FIXED_SENSE_LENGTH, MOST_CDB_LENGTH, PARAMETER_LIST_LENGTH};
 use pr_cdb::{Reply, Sense, Status, Wire, decode_sense, encode_sense};
-use pr_roles::Nexus;
+use pr_roles::{Entry, Item, Nexus};
 use pr_script::is_name;
-use pr_world::{Entry, Item};
 
 // The words of an entry's line.
 #[derive(Clone, Copy)]

@@ -3,7 +3,7 @@
 ghost use Rattle.std.specs.Prelude.{◌≡◌, ◌∷◌, [], codes, map, slice_index};
 ghost use Rattle.pr_registry.specs.Registrations.{key_of};
 ghost use Rattle.pr_roles.specs.Scenarios.{scenario_of};
-ghost use Rattle.pr_world.specs.Ends.{ending_of};
+ghost use Rattle.pr_audit.specs.Ends.{ending_of};
 ghost use Rattle.pr_report.specs.inside.WordsWritten.{WritesWords};
 ghost use Rattle.pr_output.specs.Written.{Writes};
 ghost use Rattle.pr_report.specs.inside.FrontsWritten.{WritesPaged, Adds};
@@ -18,13 +18,13 @@ use crate::first_line::put_first;
 use crate::page::Page;
 use crate::status::status_word;
 use arrayvec::ArrayVec;
+use pr_audit::End;
 use pr_cdb::codes::FIXED_SENSE_LENGTH;
 use pr_cdb::{Sense, encode_sense};
 use pr_output::{Token, WriteFault, put, put_after_space, put_line, put_spaced, put_word};
 use pr_registry::{Held, Registry};
-use pr_roles::{Nexus, Scenario};
+use pr_roles::{Entry, Item, Nexus, Scenario};
 use pr_unit::Unit;
-use pr_world::{End, Entry, Item};
 use std::io::Write;
 
 /// A line of a trace.

@@ -15,8 +15,7 @@ use crate::entry_reading::item_on;
 use crate::first_line::is_first;
 use crate::trace_error::TraceError;
 use crate::versions::most_items;
-use pr_roles::{Nexus, Scenario};
-use pr_world::Item;
+use pr_roles::{Item, Nexus, Scenario};
 use std::alloc::Global;
 use std::io::Read;
 

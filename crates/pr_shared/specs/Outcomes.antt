@@ -11,7 +11,7 @@ use Rattle.pr_roles.specs.Safety.{IsLegal}
 use Rattle.pr_roles.specs.Schedules.{Schedule}
 use Rattle.pr_roles.specs.FirstStarts.{first_state}
 use Rattle.pr_world.specs.Courses.{IsReached}
-use Rattle.pr_world.specs.Ends.{Ending, stops, waits, traps, leaves, ending_in, endings_of}
+use Rattle.pr_audit.specs.Ends.{Ending, stops, waits, traps, leaves, ending_in, endings_of}
 use Rattle.pr_world.specs.Progress.{Progress}
 use Rattle.pr_shared.specs.declared.outcome.Differs.{Differs}
 use Rattle.pr_shared.specs.declared.outcome.Outcome.{Outcome}

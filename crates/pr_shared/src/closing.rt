@@ -3,7 +3,7 @@
 ghost use Rattle.std.specs.Prelude.{◌≡◌, ◌↔◌, Some, IsTrue, length};
 ghost use Rattle.std.specs.List.{list_all};
 ghost use Rattle.pr_roles.specs.Scenarios.{scenario_of};
-ghost use Rattle.pr_world.specs.Ends.{ending_of};
+ghost use Rattle.pr_audit.specs.Ends.{ending_of};
 ghost use Rattle.pr_shared.specs.Histories.{entries_of, entries_by, lists_of};
 ghost use Rattle.pr_shared.specs.Outcomes.{AreOver, IsClosed, IsOutcome, is_over};
 ghost use Rattle.pr_shared.specs.inside.Seating.{HasRoomFor};
@@ -11,8 +11,9 @@ ghost use Rattle.pr_shared.specs.inside.Senders.{is_sent_before};
 ghost use Rattle.pr_shared.specs.inside.WorldEnds.{AreEndsOf};
 
 use crate::outcome::Outcome;
+use pr_audit::End;
 use pr_roles::{Entry, Item, Scenario};
-use pr_world::{End, World};
+use pr_world::World;
 
 /// Whether the world is one of this scenario, each list is what its nexus sent, and all are over.
 pub(crate) fn is_closed(

@@ -3,8 +3,8 @@
 ghost use Rattle.std.specs.Prelude.{◌≡◌, IfOk, length, vec_len, vec_capacity};
 ghost use Rattle.pr_roles.specs.Scenarios.{scenario_of};
 
+use pr_audit::End;
 use pr_roles::{Entry, Scenario};
-use pr_world::End;
 use std::alloc::{AllocError, Global};
 
 /// What is kept beside the lock, so that closing takes no memory: a copy of the scenario, and empty lists with room for one

@@ -1,8 +1,9 @@
 //! What a run over threads comes to.
 
+use pr_audit::End;
 use pr_roles::{Entry, Item};
 use pr_unit::Unit;
-use pr_world::{End, World};
+use pr_world::World;
 
 /// What a run came to: each host's script is stopped, and each guest's plan is done.
 #[derive(Debug, Drop)]

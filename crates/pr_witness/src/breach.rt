@@ -1,7 +1,8 @@
 //! What a run breaks.
 
+use pr_audit::End;
+use pr_roles::Item;
 use pr_unit::Unit;
-use pr_world::{End, Item};
 
 /// What a run has broken of what safety says.
 #[derive(Clone, Copy, Debug, PartialEq, Eq)]

@@ -6,18 +6,18 @@ ghost use Rattle.pr_roles.specs.Breaches.{Breaks};
 ghost use Rattle.pr_roles.specs.Scenarios.{scenario_of, task_of};
 ghost use Rattle.pr_roles.specs.Schedules.{plan_of};
 ghost use Rattle.pr_roles.specs.Worlds.{Trapped, commands_by, control};
-ghost use Rattle.pr_world.specs.Auditors.{ActFor, world_at};
-ghost use Rattle.pr_world.specs.Ends.{ending_of, endings};
+ghost use Rattle.pr_audit.specs.Auditors.{ActFor, world_at};
+ghost use Rattle.pr_audit.specs.Ends.{ending_of, endings};
 ghost use Rattle.pr_witness.specs.Breaches.{IsBreachOf, broken_of};
 ghost use Rattle.pr_witness.specs.inside.Following.{IsBroken, IsFollowed, IsForbidden, IsOverBudget};
 
 use crate::allowed::is_allowed_start;
 use crate::breach::{Breach, Broken};
+use pr_audit::{Auditor, End, commands_by, counts_of};
 use pr_cdb::Status;
 use pr_roles::{Item, Scenario, Task, permits};
 use pr_unit::Unit;
 use pr_verify::nexus_in;
-use pr_world::{Auditor, End, commands_by, counts_of};
 use std::alloc::{AllocError, Global};
 
 /// The most items of a history that is certified: as many as a trace may have.

@@ -1,10 +1,10 @@
 //! How the unit and each nexus stand, in words.
 
 use crate::held::put_held;
+use pr_audit::End;
 use pr_output::{Token, WriteFault, put, put_line, put_spaced};
 use pr_registry::Registry;
 use pr_roles::Nexus;
-use pr_world::End;
 use std::io::Write;
 
 /// The name of a nexus, by its number; empty where there is none.

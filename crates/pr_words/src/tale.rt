@@ -5,10 +5,10 @@ use crate::item::put_item;
 use crate::reply::put_reply;
 use crate::standing::{name_of, put_end, put_unit};
 use crate::telling::{Instead, Note, Telling};
+use pr_audit::End;
 use pr_cdb::Status;
 use pr_output::{Token, WriteFault, put, put_line, put_number, put_spaced};
 use pr_roles::{Entry, Item, Nexus, Scenario};
-use pr_world::End;
 use std::io::Write;
 
 /// Writes a history as it is told: each item in front of the first that isn't legal, with the line of the script that it comes

@@ -2,14 +2,14 @@
 
 ghost use Rattle.std.specs.Prelude.{◌≡◌, ◌<◌, [], true, length, IfOk};
 ghost use Rattle.pr_roles.specs.Scenarios.{scenario_of};
-ghost use Rattle.pr_world.specs.Auditors.{ActFor, world_at};
+ghost use Rattle.pr_audit.specs.Auditors.{ActFor, world_at};
 ghost use Rattle.pr_words.specs.Tellings.{IsTold};
 
+use pr_audit::{AuditError, Auditor, End, audit, counts_of};
 use pr_cdb::{Command, Reply, Status, decode, encode};
 use pr_roles::{Entry, Item, Scenario, first_start, permits};
 use pr_unit::Unit;
 use pr_verify::nexus_in;
-use pr_world::{AuditError, Auditor, End, audit, counts_of};
 use std::alloc::{AllocError, Global};
 
 /// The most items of a history whose commands are counted: as many as a trace may have.

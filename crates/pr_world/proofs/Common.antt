@@ -29,13 +29,13 @@ pub use Rattle.pr_roles.specs.declared.item.Item.TheVariants.{Sent, Reset}
 pub use Rattle.pr_roles.specs.declared.parts.Parts.{Parts}
 pub use Rattle.pr_roles.specs.declared.role.Clause.{Clause}
 pub use Rattle.pr_roles.specs.declared.step.Step.{Step}
-pub use Rattle.pr_regions.proofs.lemmas.Showing.ScenarioParts.{count_of_parts}
-pub use Rattle.pr_world.specs.Auditors.{control_by, Adds, IsTried, is_free, ActFor}
-pub use Rattle.pr_world.specs.Courses.{is_planned, IsReached}
-pub use Rattle.pr_world.specs.Ends.{ending_of, ending}
+pub use Rattle.pr_audit.specs.Auditors.{is_free}
+pub use Rattle.pr_world.specs.Courses.{IsReached}
+pub use Rattle.pr_audit.specs.Auditors.{is_planned}
+pub use Rattle.pr_audit.specs.Ends.{ending_of, ending}
 pub use Rattle.pr_world.specs.declared.course.Course.{Course}
 pub use Rattle.pr_world.specs.declared.participant.Participant.{Participant}
-pub use Rattle.pr_world.specs.inside.Auditing.{IsJudged, Reaches}
+pub use Rattle.pr_audit.specs.inside.Auditing.{Reaches}
 pub use Rattle.pr_world.specs.inside.Participations.{Participation, participation_of, schedule_by, HappensBy, StandsFor, schedule_of}
 pub use Rattle.pr_world.specs.inside.Turns.{does}
 pub use Rattle.pr_cdb.specs.declared.codes.TheConstants.{MOST_CDB_LENGTH, PARAMETER_LIST_LENGTH}

@@ -1,8 +1,4 @@
-pub mod Auditing
-pub mod Auditors
-pub mod Audits
 pub mod Courses
-pub mod Ends
 pub mod Laws
 pub mod Participations
 pub mod Replays

@@ -1,19 +1,15 @@
 -- Agrees with docs/FORMATS.md, 'Replaying'.
 -- A scenario at work: a world, and what is left of each guest's plan.
-use Rattle.std.specs.Prelude.{◌≡◌, ℕ, Bool, true, false, List, [], ◌∷◌, ◌++◌, Some}
+use Rattle.std.specs.Prelude.{◌≡◌, ℕ, List, [], ◌∷◌, ◌++◌, Some}
 use Rattle.pr_unit.specs.UnitStates.{UnitState}
 use Rattle.pr_roles.specs.declared.entry.Entry.{Entry}
 use Rattle.pr_roles.specs.declared.item.Item.TheVariants.{Sent}
 use Rattle.pr_roles.specs.declared.step.Step.{Step}
-use Rattle.pr_roles.specs.Scenarios.{Scenario, Task, Scripted, Planned}
+use Rattle.pr_roles.specs.Scenarios.{Scenario}
 use Rattle.pr_roles.specs.Worlds.{World, Event, Happens, Run, world_from}
 use Rattle.pr_roles.specs.Starts.{IsAllowedStart}
 use Rattle.pr_roles.specs.FirstStarts.{first_state}
 use Rattle.pr_roles.specs.Schedules.{Schedule, ScheduledRun, schedule_from}
-
-abbrev pub is_planned : Task → Bool
-is_planned (Scripted script budget) = false
-is_planned (Planned commands) = true
 
 -- One event, the command of h, leads from one world to the other. The entry of h stands last in the history.
 pub record IsOneEvent (s : Scenario) (h : ℕ) (e : Entry) (w v : World) : Type 0 where

@@ -22,7 +22,7 @@ use Rattle.pr_roles.specs.Schedules.{Schedule}
 use Rattle.pr_roles.specs.Safety.{IsSafe, IsLegal}
 use Rattle.pr_world.specs.declared.replaying.Replayed.{Replayed}
 use Rattle.pr_world.specs.Courses.{IsReached}
-use Rattle.pr_world.specs.Ends.{is_trapped_end}
+use Rattle.pr_audit.specs.Ends.{is_trapped_end}
 use Rattle.pr_world.specs.Replays.{IsReplayed}
 use Rattle.pr_world.specs.Rooms.{room_by}
 

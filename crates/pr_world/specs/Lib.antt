@@ -1,6 +1,3 @@
-pub mod Auditors
-pub mod Audits
-pub mod Ends
 pub mod Courses
 pub mod Replays
 pub mod Laws

@@ -1,19 +1,18 @@
 -- Agrees with docs/FORMATS.md, 'Replaying'.
 -- What a replay comes to.
-use Rattle.std.specs.Prelude.{◌≡◌, ℕ, ◌<◌, List, length, map, Some}
-use Rattle.std.specs.List.{list_any, range_with_len}
+use Rattle.std.specs.Prelude.{◌≡◌, ℕ, ◌<◌, List, map, Some}
+use Rattle.std.specs.List.{list_any}
 use Rattle.pr_unit.specs.UnitStates.{UnitState}
 use Rattle.pr_roles.specs.declared.how.How.TheVariants as how
-use Rattle.pr_roles.specs.declared.item.Item.{Item}
 use Rattle.pr_roles.specs.declared.step.Step.{Step}
 use Rattle.pr_roles.specs.declared.step.Step.TheVariants as step
 use Rattle.pr_roles.specs.Scenarios.{Scenario}
 use Rattle.pr_roles.specs.Starts.{IsAllowedStart}
 use Rattle.pr_roles.specs.FirstStarts.{first_state}
-use Rattle.pr_roles.specs.Worlds.{Event, Run, is_trapped, commands_by, world_from}
+use Rattle.pr_roles.specs.Worlds.{Event, Run, is_trapped, world_from}
 use Rattle.pr_roles.specs.Schedules.{Schedule, ScheduledRun, schedule_from}
 use Rattle.pr_world.specs.declared.replaying.Replayed.{Replayed}
-use Rattle.pr_world.specs.Ends.{endings, endings_of, is_trapped_end}
+use Rattle.pr_audit.specs.Ends.{counts_in, endings, endings_of, is_trapped_end}
 
 -- whoever's turn it is, it is one of so many nexuses
 abbrev pub IsThere : ℕ → Step → Type 0
@@ -23,14 +22,6 @@ IsThere n step.Reset = Unit {0}
 -- turns of these nexuses, one after another, in which the unit answers
 abbrev pub plain_steps : List ℕ → List Step
 plain_steps hosts = map (λ host. step.Of host how.Plain) hosts
-
--- how many commands of each of so many nexuses a history has
-abbrev pub counts_by : ℕ → List Item → List ℕ
-counts_by n history = map (λ h. commands_by history h) (range_with_len 0 n)
-
--- how many commands of each nexus reached the unit
-abbrev pub counts_in : Schedule → List ℕ
-counts_in y = counts_by (length y.plans) y.world.history
 
 -- what a schedule holds at last: the history, the unit, the end of each nexus, and how many of its
 -- commands reached the unit. Some end is a trapped one just where some host is trapped.

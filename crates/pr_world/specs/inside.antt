@@ -1,4 +1,3 @@
-pub mod Auditing
 pub mod ProgressCodes
 pub mod Plans
 pub mod Workings

@@ -3,20 +3,18 @@
 ghost use Rattle.std.specs.Prelude.{◌≡◌, ◌<◌, ◌≤◌, ◌+◌, ◌^◌, true, [], Some, length, map, IfOk, vec_len, vec_capacity};
 ghost use Rattle.pr_roles.specs.declared.step.Step.{Step};
 ghost use Rattle.pr_roles.specs.Scenarios.{scenario_of};
-ghost use Rattle.pr_roles.specs.Worlds.{commands_by, may_reset};
+ghost use Rattle.pr_roles.specs.Worlds.{may_reset};
 ghost use Rattle.pr_world.specs.Courses.{IsReached};
-ghost use Rattle.pr_world.specs.Ends.{ending_in, ending_of, endings_of};
-ghost use Rattle.pr_world.specs.Replays.{IsEndOf, IsThere, counts_by};
+ghost use Rattle.pr_audit.specs.Ends.{ending_in, ending_of, endings_of};
+ghost use Rattle.pr_world.specs.Replays.{IsEndOf, IsThere};
 ghost use Rattle.pr_world.specs.inside.Participations.{AreFirst, ending_at, schedule_of};
 ghost use Rattle.pr_world.specs.inside.Turns.{doing_of, sends};
 ghost use Rattle.pr_world.specs.inside.Workings.{CourseExtends, CourseHappens, CourseTakes, HasRoom, IsCourseOf, IsEmptyFor, IsTrappedIn, course_does};
 
 use crate::act::Act;
-use crate::end::End;
 use crate::participant::Participant;
-use crate::refusing::how_now;
 use crate::replaying::Replayed;
-use crate::resetting::may_reset;
+use pr_audit::{End, counts_of, how_now, may_reset};
 use pr_roles::{How, Item, Scenario, Step, first_start};
 use pr_unit::Unit;
 use std::alloc::{AllocError, Global};
@@ -168,28 +166,4 @@ fn ends_of(alloc: Global, participants: &[Participant]) -> Result<Vec<End>, Allo
         ends.push(participant.end())?;
     }
     Ok(ends)
-}
-
-/// How many commands of each of so many hosts and guests are in the history.
-pub fn counts_of(
-    alloc: Global,
-    history: &[Item],
-    participants: usize,
-) -> Result<Vec<u32>, AllocError>
-    requires { length history.now < 2 ^ 32 }
-    ensures { IfOk result (λ counts. counts.items ≡ counts_by participants history.now) }
-{
-    let mut counts = Vec::with_capacity(alloc, participants)?;
-    for host in 0..participants {
-        counts.push(commands_by(history, host))?;
-    }
-    Ok(counts)
-}
-
-/// How many of the commands are the host's or guest's.
-pub fn commands_by(history: &[Item], host: usize) -> u32
-    requires { commands_by history.now host < 2 ^ 32 }
-    ensures { result ≡ commands_by history.now host }
-{
-    history.iter().filter(|item| item.is_by(host)).count() as u32
 }

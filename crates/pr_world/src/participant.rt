@@ -2,16 +2,16 @@
 
 ghost use Rattle.std.specs.Prelude.{◌≡◌, ◌<◌, Some, IfOk, IsTrue};
 ghost use Rattle.pr_roles.specs.Scenarios.{task_of};
-ghost use Rattle.pr_world.specs.Ends.{ending_of};
-ghost use Rattle.pr_world.specs.inside.Participations.{IsFirst, IsSent, IsShort, ending_at, participation_of};
+ghost use Rattle.pr_audit.specs.Ends.{ending_of};
+ghost use Rattle.pr_world.specs.inside.Participations.{IsFirst, IsSent, ending_at, participation_of};
+ghost use Rattle.pr_audit.specs.inside.Auditing.{IsShort};
 ghost use Rattle.pr_roles.specs.Worlds.{is_trapped};
 ghost use Rattle.pr_roles.specs.Schedules.{is_held_back, is_passed_over};
 ghost use Rattle.pr_world.specs.inside.Turns.{ParticipantActs, doing_of, participant_does};
 
 use crate::act::Act;
-use crate::end::End;
 use crate::plan::Plan;
-use crate::refusing::refused;
+use pr_audit::{End, refused};
 use pr_cdb::{Command, Status, encode};
 use pr_roles::{Entry, How, Nexus, Role, Task, permits};
 use pr_script::{Machine, Next};

@@ -3,11 +3,11 @@
 ghost use Rattle.std.specs.Prelude.{◌≡◌, ◌<◌, ◌^◌, length, IfOk};
 ghost use Rattle.std.specs.List.{All, list_any};
 ghost use Rattle.pr_roles.specs.Scenarios.{scenario_of};
-ghost use Rattle.pr_world.specs.Ends.{is_trapped_end};
+ghost use Rattle.pr_audit.specs.Ends.{is_trapped_end};
 ghost use Rattle.pr_world.specs.Replays.{IsReplayed, IsThere, plain_steps};
 
 use crate::course::Course;
-use crate::end::End;
+use pr_audit::End;
 use pr_roles::{How, Item, Scenario, Step};
 use pr_unit::Unit;
 use std::alloc::{AllocError, Global};

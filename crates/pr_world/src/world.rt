@@ -8,8 +8,8 @@ ghost use Rattle.pr_world.specs.Rooms.{room_of};
 
 use crate::act::Act;
 use crate::course::Course;
-use crate::end::End;
 use crate::turn::Turn;
+use pr_audit::End;
 use pr_roles::{How, Item, Nexus, Scenario, Step, Task};
 use pr_script::end_word;
 use pr_unit::Unit;
@@ -49,7 +49,7 @@ impl Model for World {
 
 impl World {
     ghost use Rattle.pr_roles.specs.declared.step.Step.{Step};
-    ghost use Rattle.pr_world.specs.Ends.{ending_in, ending_of};
+    ghost use Rattle.pr_audit.specs.Ends.{ending_in, ending_of};
     ghost use Rattle.pr_world.specs.Progress.{Extends, IsLegalProgress, IsStoppedIn, PassesCommand, ResetsUnit, SendsEntry, TakesStep, has_reset_left};
     ghost use Rattle.pr_world.specs.StepAnswers.{IfSent, IfStopped, IfHeld};
 

@@ -2,7 +2,7 @@
 use Rattle.std.specs.Prelude.{List, ℕ, ◌++◌, codes}
 use Rattle.pr_report.specs.declared.trace.TraceLine.{TraceLine}
 use Rattle.pr_report.specs.declared.trace.TraceLine.TheVariants.{First, Item, Unit as UnitLine, End}
-use Rattle.pr_world.specs.Ends.{ending_of}
+use Rattle.pr_audit.specs.Ends.{ending_of}
 use Rattle.pr_report.specs.TraceText.{first_line, item_line, unit_line, ending_line}
 
 abbrev pub line_text : List (List ℕ) → TraceLine → List ℕ

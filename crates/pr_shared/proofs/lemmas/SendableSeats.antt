@@ -12,7 +12,7 @@ use Rattle.pr_roles.proofs.role.Role.TheSendSync as role
 use Rattle.pr_roles.proofs.parts.Start.TheSendSync as start
 use Rattle.pr_roles.proofs.entry.Entry.TheSendSync as entry
 use Rattle.pr_world.proofs.course.Course.TheSendSync as course
-use Rattle.pr_world.proofs.end.End.TheSendSync as end
+use Rattle.pr_audit.proofs.end.End.TheSendSync as end
 use Rattle.pr_script.proofs.script.Test.TheSendSync as test
 use Rattle.pr_script.proofs.script.Statement.TheLaws.TheKnot.{both_send-Script, both_sync-Script}
 use Rattle.std.proofs.option.Option.TheSendSync as optional

@@ -1,8 +1,8 @@
 -- How the nexuses of a world stand.
 use Rattle.std.specs.Prelude.{◌≡◌, List}
 use Rattle.pr_roles.specs.Scenarios.{scenario_of}
-use Rattle.pr_world.specs.declared.end.End.{End}
-use Rattle.pr_world.specs.Ends.{endings_of}
+use Rattle.pr_audit.specs.declared.end.End.{End}
+use Rattle.pr_audit.specs.Ends.{endings_of}
 use Rattle.pr_world.specs.Progress.{Progress}
 use Rattle.pr_shared.specs.Outcomes.{endings_in}
 

@@ -15,10 +15,10 @@ use Rattle.pr_roles.specs.Safety.{KeepsBudgetBy}
 use Rattle.pr_roles.specs.Scenarios.{Scenario, Nexus, Task, Planned, Scripted, nexus, nexus_of, scenario_of, task, task_of}
 use Rattle.pr_roles.specs.Schedules.{plan_of}
 use Rattle.pr_roles.specs.Worlds.{World, Control, Going, Trapped, Free, commands_by, control}
-use Rattle.pr_world.specs.Auditors.{ActFor}
-use Rattle.pr_world.specs.inside.Participations.{IsShort}
-use Rattle.pr_world.specs.Ends.{Ending, ending, ending_by, endings, stops, waits, traps, leaves}
-use Rattle.pr_world.proofs.lemmas.Courses.Starts.{short_part}
+use Rattle.pr_audit.specs.Auditors.{ActFor}
+use Rattle.pr_audit.specs.inside.Auditing.{IsShort}
+use Rattle.pr_audit.specs.Ends.{Ending, ending, ending_by, endings, stops, waits, traps, leaves}
+use Rattle.pr_audit.proofs.lemmas.Auditing.Parts.{short_part}
 use Rattle.pr_witness.specs.inside.Following.{IsOverBudget}
 use Rattle.pr_witness.proofs.lemmas.FollowedHistories.{control_there}
 

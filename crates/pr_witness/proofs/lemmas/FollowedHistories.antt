@@ -21,13 +21,13 @@ use Rattle.pr_roles.specs.Scenarios.{Scenario, role, scenario_of}
 use Rattle.pr_roles.specs.Schedules.{plan_of}
 use Rattle.pr_roles.specs.Starts.{IsAllowedStart}
 use Rattle.pr_roles.specs.Worlds.{World, Event, Host, Guest, UnitReset, Happens, HostSends, commands_by, control, entry_of, standing_of, world_from}
-use Rattle.pr_world.specs.declared.auditor.Auditor.{Auditor}
-use Rattle.pr_world.specs.Auditors.{Adds, ActFor, IsTried, is_free, world_at}
-use Rattle.pr_world.specs.Courses.{is_planned}
-use Rattle.pr_world.specs.Ends.{ending_of, endings}
+use Rattle.pr_audit.specs.declared.auditor.Auditor.{Auditor}
+use Rattle.pr_audit.specs.Auditors.{Adds, ActFor, IsTried, is_free, world_at}
+use Rattle.pr_audit.specs.Auditors.{is_planned}
+use Rattle.pr_audit.specs.Ends.{ending_of, endings}
 use Rattle.pr_regions.proofs.lemmas.Showing.ScenarioParts.{count_of_parts}
-use Rattle.pr_world.proofs.lemmas.Auditors.Additions.{guests_free, same_entry, same_item}
-use Rattle.pr_world.proofs.lemmas.Auditing.Histories.{reaches_more}
+use Rattle.pr_audit.proofs.lemmas.Auditors.Additions.{guests_free, same_entry, same_item}
+use Rattle.pr_audit.proofs.lemmas.Auditing.Histories.{reaches_more}
 use Rattle.pr_witness.specs.declared.breach.Breach.{Breach}
 use Rattle.pr_witness.specs.Breaches.{IsBreachOf, broken_of}
 use Rattle.pr_witness.specs.inside.Following.{IsBroken, IsFollowed, IsForbidden, LeavesWith}

@@ -13,8 +13,8 @@ use Rattle.pr_roles.specs.Permits.{is_permitted}
 use Rattle.pr_roles.specs.Scenarios.{Scenario, role, task}
 use Rattle.pr_roles.specs.Safety.{KeepsBudgetBy}
 use Rattle.pr_roles.specs.Worlds.{World, control, standing_of}
-use Rattle.pr_world.specs.Auditors.{ActFor}
-use Rattle.pr_world.specs.inside.Auditing.{Reaches}
+use Rattle.pr_audit.specs.Auditors.{ActFor}
+use Rattle.pr_audit.specs.inside.Auditing.{Reaches}
 
 -- some run from this start has this history and leads to this world, in which there is one nexus for each that the scenario
 -- declares

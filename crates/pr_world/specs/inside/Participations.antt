@@ -1,28 +1,25 @@
 -- What is left of each nexus at work, and one event of it.
-use Rattle.std.specs.Prelude.{◌≡◌, ℕ, ◌≤◌, Bool, true, false, List, [], ◌∷◌, Option, Some, None, length, map}
+use Rattle.std.specs.Prelude.{◌≡◌, ℕ, List, [], ◌∷◌, Option, Some, None, length, map}
 use Rattle.pr_cdb.specs.declared.command.Command.{Command}
 use Rattle.pr_cdb.specs.declared.wire.Request.TheVariants.{Plain}
 use Rattle.pr_cdb.specs.Requests.{plain_request, request_of_wire}
 use Rattle.pr_cdb.specs.Spelling.{spelling}
 use Rattle.pr_unit.specs.UnitStates.{UnitState}
-use Rattle.pr_script.specs.declared.limits.TheConstants.{MOST_OPEN}
-use Rattle.pr_script.specs.Depths.{depth_of_all}
 use Rattle.pr_roles.specs.declared.entry.Entry.{Entry}
 use Rattle.pr_roles.specs.declared.item.Item.{Item}
 use Rattle.pr_roles.specs.declared.item.Item.TheVariants.{Sent}
 use Rattle.pr_roles.specs.declared.how.How.{How}
-use Rattle.pr_roles.specs.declared.limits.TheConstants.{MOST_PLANNED}
 use Rattle.pr_roles.specs.declared.parts.Nexus.{Nexus}
 use Rattle.pr_roles.specs.declared.parts.Parts.{Parts}
-use Rattle.pr_roles.specs.Scenarios.{Scenario, Task, Scripted, Planned, scenario_of, task_of}
+use Rattle.pr_roles.specs.Scenarios.{Scenario, Task, scenario_of, task_of}
 use Rattle.pr_roles.specs.Worlds.{World, Control, Going, Trapped, Free, control_of, entry_of}
 use Rattle.pr_roles.specs.Schedules.{TakenAnswer, Schedule, plan_of}
 use Rattle.pr_world.specs.declared.course.Course.{Course}
 use Rattle.pr_world.specs.declared.participant.Participant.{Participant}
 use Rattle.pr_world.specs.declared.participant.Participant.TheVariants as participant
-use Rattle.pr_world.specs.Auditors.{is_free}
-use Rattle.pr_world.specs.Courses.{is_planned, IsOneEvent}
-use Rattle.pr_world.specs.Ends.{Ending, ending}
+use Rattle.pr_audit.specs.Auditors.{is_free, is_planned}
+use Rattle.pr_world.specs.Courses.{IsOneEvent}
+use Rattle.pr_audit.specs.Ends.{Ending, ending}
 
 -- what one nexus does, and what is left of its plan
 pub record Participation : Type 0 where
@@ -52,11 +49,6 @@ AreFirst p xs = map participation_of xs ≡ map (λ n. participation_from n.task
 -- how it stands
 abbrev pub ending_at : Participant → Option Ending
 ending_at x = ending (participation_of x).control (participation_of x).plan
-
--- the script and the plan are no longer than those that a text can have
-abbrev pub IsShort : Task → Type 0
-IsShort (Scripted script budget) = depth_of_all script ≤ MOST_OPEN
-IsShort (Planned commands) = length commands ≤ MOST_PLANNED
 
 abbrev pub schedule_by : UnitState → List Participation → List Item → Schedule
 schedule_by unit participations history = record {

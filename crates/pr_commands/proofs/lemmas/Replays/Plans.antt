@@ -13,7 +13,7 @@ use Rattle.pr_text.specs.Reading.{IsWrittenAs}
 use Rattle.pr_world.specs.declared.replaying.Replayed.{Replayed}
 use Rattle.pr_world.specs.Replays.{IsReplayed}
 use Rattle.pr_report.specs.TraceText.{names_in, names_of}
-use Rattle.pr_report.proofs.lemmas.Traces.Replays.{replays_are_traced}
+use Rattle.pr_commands.proofs.lemmas.Replays.Traces.{replays_are_traced}
 use Rattle.pr_commands.specs.declared.fault.Fault.TheVariants as fault
 use Rattle.pr_commands.specs.Steps.{step_in, steps_of, has_wrong_count}
 use Rattle.pr_commands.specs.Replays.{IsTraceOf, IsUsageFault}

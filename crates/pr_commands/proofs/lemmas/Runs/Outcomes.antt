@@ -14,8 +14,8 @@ use Rattle.pr_roles.specs.Fitting.{Fits, is_nexus}
 use Rattle.pr_roles.specs.Worlds.{commands_by}
 use Rattle.pr_text.specs.Reading.{IsWrittenAs}
 use Rattle.pr_roles.specs.declared.item.Item.{Item}
-use Rattle.pr_world.specs.declared.end.End.{End}
-use Rattle.pr_world.specs.Ends.{ending_of}
+use Rattle.pr_audit.specs.declared.end.End.{End}
+use Rattle.pr_audit.specs.Ends.{ending_of}
 use Rattle.pr_world.specs.Rooms.{room_by}
 use Rattle.pr_roles.proofs.lemmas.Starts.AllowedStarts.{each_nexus}
 use Rattle.pr_world.proofs.lemmas.Workings.Room.{sent_within}

@@ -3,8 +3,8 @@ use Rattle.std.specs.Prelude.{map}
 use Rattle.pr_roles.specs.declared.item.Item.{Item}
 use Rattle.pr_roles.specs.declared.parts.Parts.{Parts}
 use Rattle.pr_roles.specs.Scenarios.{scenario_of}
-use Rattle.pr_world.specs.declared.end.End.{End}
-use Rattle.pr_world.specs.Ends.{ending_of}
+use Rattle.pr_audit.specs.declared.end.End.{End}
+use Rattle.pr_audit.specs.Ends.{ending_of}
 use Rattle.pr_report.specs.TraceText.{names_in, names_of, trace_body}
 use Rattle.pr_output.specs.Written.{FallsShort, Puts}
 use Rattle.std.specs.Io.KnownBytes.{Appends}

@@ -8,7 +8,7 @@ use Rattle.pr_registry.specs.declared.held.Held.TheVariants.{All as Everybody}
 use Rattle.pr_output.proofs.lemmas.PrintedLines.KeyDigits.{key_short}
 use Rattle.pr_registry.specs.Registrations.{IsWellFormed, State, key_of}
 use Rattle.pr_cdb.specs.Kinds.{code_of}
-use Rattle.pr_world.specs.Ends.{Ending, stops, waits, traps, leaves}
+use Rattle.pr_audit.specs.Ends.{Ending, stops, waits, traps, leaves}
 use Rattle.pr_output.specs.PrintedLines.{generation_word, key_or_dash, registration_word}
 use Rattle.pr_report.specs.TraceText.{ending_line, registration_words}
 use Rattle.pr_report.specs.TraceLaws.{IsEnding, IsItem, WrittenTracesAreRead}

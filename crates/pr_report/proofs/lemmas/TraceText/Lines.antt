@@ -5,7 +5,7 @@ use Rattle.pr_report.specs.TraceText.{item_line, ending_line, registration_words
 use Rattle.pr_roles.specs.declared.parts.Nexus.{Nexus as NexusPart}
 use Rattle.pr_roles.specs.Scenarios.{nexus_of}
 use Rattle.pr_registry.specs.Registrations.{State, key_of}
-use Rattle.pr_world.specs.declared.end.End.{End}
+use Rattle.pr_audit.specs.declared.end.End.{End}
 use Rattle.pr_output.proofs.lemmas.Written.Fronts.{wrote_front, wrote_more}
 use Rattle.pr_report.proofs.lemmas.FrontsWritten.HeldLines.{held_first, held_front, held_more}
 

@@ -2,7 +2,7 @@ use Rattle.std.specs.Prelude.{◌≡◌, Some, map, vec_len, vec_capacity}
 use Rattle.std.specs.List.{range_with_len}
 use Rattle.pr_roles.specs.Schedules.{plan}
 use Rattle.pr_roles.specs.Worlds.{control}
-use Rattle.pr_world.specs.Ends.{ending, ending_of}
+use Rattle.pr_audit.specs.Ends.{ending, ending_of}
 use Rattle.pr_shared.proofs.closing.ends_of.Given as goal
 
 -- how those before this one stand

@@ -10,7 +10,7 @@ use Rattle.pr_roles.specs.declared.parts.Parts.{Parts}
 use Rattle.pr_roles.specs.Fitting.{Fits, is_nexus}
 use Rattle.pr_roles.proofs.lemmas.Starts.AllowedStarts.{each_nexus, few_parts}
 use Rattle.pr_roles.specs.Scenarios.{nexus_of, scenario_of, task_of}
-use Rattle.pr_world.specs.Courses.{is_planned}
+use Rattle.pr_audit.specs.Auditors.{is_planned}
 use Rattle.pr_world.specs.Rooms.{room_of}
 use Rattle.pr_world.proofs.lemmas.Workings.Reserves.{room_of_nexus}
 use Rattle.pr_shared.specs.Guests.{guests_of}

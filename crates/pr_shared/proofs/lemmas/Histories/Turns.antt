@@ -13,7 +13,8 @@ use Rattle.pr_roles.specs.Scenarios.{Scenario, Nexus, Task, Scripted, Planned, t
 use Rattle.pr_roles.specs.Schedules.{Schedule, Turn as IsTurn, TurnBy}
 use Rattle.pr_world.specs.declared.turn.Turn.{Turn}
 use Rattle.pr_world.specs.declared.turn.Turn.TheVariants as turn
-use Rattle.pr_world.specs.Courses.{IsOneEvent, IsReached, is_planned}
+use Rattle.pr_world.specs.Courses.{IsOneEvent, IsReached}
+use Rattle.pr_audit.specs.Auditors.{is_planned}
 use Rattle.pr_world.specs.StepAnswers.{IfSent, IfHeld, PassesOver}
 use Rattle.pr_shared.specs.Guests.{guests_of}
 use Rattle.pr_shared.specs.Histories.{EndsLegally}

@@ -15,9 +15,10 @@ use Rattle.pr_roles.specs.declared.step.Step.{Step}
 use Rattle.pr_roles.specs.Scenarios.{Scenario, scenario_of}
 use Rattle.pr_roles.specs.Schedules.{Schedule, plan}
 use Rattle.pr_roles.specs.Worlds.{control}
-use Rattle.pr_world.specs.declared.end.End.{End}
-use Rattle.pr_world.specs.Courses.{IsReached, is_planned}
-use Rattle.pr_world.specs.Ends.{Ending, ending, ending_of}
+use Rattle.pr_audit.specs.declared.end.End.{End}
+use Rattle.pr_world.specs.Courses.{IsReached}
+use Rattle.pr_audit.specs.Auditors.{is_planned}
+use Rattle.pr_audit.specs.Ends.{Ending, ending, ending_of}
 use Rattle.pr_world.specs.Progress.{Progress}
 use Rattle.pr_shared.specs.Guests.{guests_of}
 use Rattle.pr_shared.specs.Histories.{entries_by, entries_of}

@@ -4,9 +4,9 @@ use Rattle.std.proofs.lemmas.List.{map-append}
 use Rattle.pr_registry.specs.Registrations.{State}
 use Rattle.pr_unit.specs.UnitStates.{UnitState}
 use Rattle.pr_roles.specs.Scenarios.{scenario_of}
-use Rattle.pr_world.specs.declared.end.End.{End}
-use Rattle.pr_world.specs.Auditors.{world_at}
-use Rattle.pr_world.specs.Ends.{Ending, ending_of}
+use Rattle.pr_audit.specs.declared.end.End.{End}
+use Rattle.pr_audit.specs.Auditors.{world_at}
+use Rattle.pr_audit.specs.Ends.{Ending, ending_of}
 use Rattle.pr_witness.proofs.lemmas.Ends.{all_endings, endings_more, endings_over, plan_short}
 use Rattle.pr_witness.proofs.certifying.ends_of.Goals as goal
 

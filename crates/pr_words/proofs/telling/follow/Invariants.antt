@@ -1,6 +1,6 @@
 use Rattle.std.proofs.Common.{[]}
 use Rattle.pr_roles.specs.Scenarios.{scenario_of}
-use Rattle.pr_world.specs.Auditors.{ActFor, world_at}
+use Rattle.pr_audit.specs.Auditors.{ActFor, world_at}
 use Rattle.pr_words.proofs.telling.follow.Given as goal
 
 -- there is a nexus for each that the scenario declares

@@ -1,4 +1,4 @@
-use Rattle.pr_world.proofs.lemmas.Courses.Starts.{short_at}
+use Rattle.pr_audit.proofs.lemmas.Auditing.Parts.{short_at}
 use Rattle.pr_world.proofs.course.participants_of.Goals as goal
 
 pub new-requires : goal.new-requires

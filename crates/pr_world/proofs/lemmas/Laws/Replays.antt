@@ -7,10 +7,10 @@ use Rattle.std.proofs.lemmas.List.FromFn.{get_or-map-range_with_len, length-map-
 use Rattle.pr_roles.specs.Starts.{IsAllowedStart}
 use Rattle.pr_roles.specs.Safety.{KeepsBudgetBy}
 use Rattle.pr_world.specs.declared.replaying.Replayed.{Replayed}
-use Rattle.pr_world.specs.Ends.{is_trapped_end}
+use Rattle.pr_audit.specs.Ends.{is_trapped_end}
 use Rattle.pr_world.specs.Laws.{IsPermittedAfter}
 use Rattle.pr_world.specs.Replays.{IsReplayed}
-use Rattle.pr_world.proofs.lemmas.Auditing.Histories.{last_same, legal_before, reached_before}
+use Rattle.pr_audit.proofs.lemmas.Auditing.Histories.{last_same, legal_before, reached_before}
 use Rattle.pr_verify.proofs.lemmas.Laws.Runs.{safe_sends_are_fine}
 
 pub replay_is_legal : (s : Scenario) (steps : List Step) (r : Replayed) (x : IsReplayed s steps r) → IsLegal s x.start r.history.items

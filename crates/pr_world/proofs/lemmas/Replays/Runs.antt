@@ -1,5 +1,5 @@
 -- Turns and resets one after another, and what they come to.
-use Rattle.pr_world.proofs.Common.{◌≡◌, ℕ, ◌+◌, ◌<◌, ◌≤◌, List, [], ◌∷◌, ◌++◌, map, length, get_or, take, Some, None, Ok, vec_len, vec_capacity, Option, sym, refl, ap, ◌∙◌, subst, arith, range_with_len, get_or-map, length-map, Scenario, Schedule, Turn, World, Event, Happens, world_from, commands_by, Entry, How, Item, Step, IsReached, ending_of, ending, Course, Participant, participation_of, HappensBy, StandsFor, schedule_of}
+use Rattle.pr_world.proofs.Common.{◌≡◌, ℕ, ◌+◌, ◌<◌, ◌≤◌, List, [], ◌∷◌, ◌++◌, map, length, get_or, take, Some, None, Ok, vec_len, vec_capacity, Option, sym, refl, ap, ◌∙◌, subst, arith, range_with_len, get_or-map, length-map, Scenario, Schedule, Turn, Event, Happens, world_from, commands_by, Entry, How, Item, Step, IsReached, ending_of, ending, Course, Participant, participation_of, HappensBy, StandsFor, schedule_of}
 use Rattle.std.proofs.Common.{Result, Err, IfOk}
 use Rattle.std.specs.declared.alloc.AllocError.{AllocError}
 use Rattle.std.proofs.lemmas.List.{take_all, take_more}
@@ -7,9 +7,10 @@ use Rattle.pr_roles.specs.Worlds.{Run}
 use Rattle.pr_roles.specs.Schedules.{Advances, ScheduledRun}
 use Rattle.pr_roles.specs.declared.how.How.TheVariants as how
 use Rattle.pr_roles.specs.declared.step.Step.TheVariants as step
+use Rattle.pr_audit.proofs.lemmas.Auditing.Histories.{run_then}
 use Rattle.pr_world.specs.declared.replaying.Replayed.{Replayed}
-use Rattle.pr_world.specs.Ends.{endings}
-use Rattle.pr_world.proofs.lemmas.Ends.Traps.{trapped_ends}
+use Rattle.pr_audit.specs.Ends.{endings}
+use Rattle.pr_world.proofs.lemmas.Replays.Traps.{trapped_ends}
 use Rattle.pr_world.specs.Replays.{IsEndOf, IsReplayed, plain_steps}
 
 -- ---- one step more
@@ -17,10 +18,6 @@ use Rattle.pr_world.specs.Replays.{IsEndOf, IsReplayed, plain_steps}
 pub scheduled_then : (s : Scenario) (x y z : Schedule) (steps : List Step) (next : Step) → ScheduledRun s x steps y → Advances s y next z → ScheduledRun s x (steps ++ next ∷ []) z
 scheduled_then s x y z [] next run advances = (z, subst (λ w. Advances s w next z) run advances, refl)
 scheduled_then s x y z (first ∷ steps) next run advances = (run.0, run.1, scheduled_then s run.0 y z steps next run.2 advances)
-
-pub run_then : (s : Scenario) (w v x : World) (es : List Event) (e : Event) → Run s w es v → Happens s v e x → Run s w (es ++ e ∷ []) x
-run_then s w v x [] e run happens = (x, subst (λ u. Happens s u e x) run happens, refl)
-run_then s w v x (f ∷ fs) e run happens = (run.0, run.1, run_then s run.0 v x fs e run.2 happens)
 
 -- a step that changes nothing of the world
 pub reached_still : (s : Scenario) (steps : List Step) (x y : Schedule) (next : Step) → Advances s x next y → y.world ≡ x.world → IsReached s steps x → IsReached s (steps ++ next ∷ []) y

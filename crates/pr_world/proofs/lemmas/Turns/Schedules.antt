@@ -1,13 +1,12 @@
 -- What one nexus does makes the turn of the schedule.
-use Rattle.pr_world.proofs.Common.{◌≡◌, ℕ, ◌<◌, Bool, true, false, List, [], ◌∷◌, ◌++◌, map, length, get_or, IsTrue, slice_get, slice_set, Some, None, vec_len, Option, option_map, sym, refl, ap, ◌∙◌, subst, append-nil, arith, option_map_or, get_or-map, map-set_same, length-map, map-set, slice_get-map, slice_get-get_or, Command, Reply, UnitState, Standing, ready, stopped, how_now, Task, Scripted, Planned, role, Scenario, nexus, nexus_of, scenario_of, plan, is_passed_over, GuestTurn, TurnBy, Turn, Control, Going, Trapped, Free, standing_of, control_after, control, is_trapped, Entry, How, Item, Sent, Parts, Clause, count_of_parts, is_free, is_planned, ending, Participant, Participation, participation_of, schedule_by, HappensBy, StandsFor, does}
+use Rattle.pr_world.proofs.Common.{◌≡◌, ℕ, ◌<◌, Bool, true, false, List, [], ◌∷◌, ◌++◌, map, length, get_or, IsTrue, slice_get, slice_set, Some, None, vec_len, Option, option_map, sym, refl, ap, ◌∙◌, subst, append-nil, arith, option_map_or, get_or-map, map-set_same, length-map, map-set, slice_get-map, slice_get-get_or, Command, Reply, UnitState, Standing, ready, stopped, how_now, Task, Scripted, Planned, role, Scenario, nexus, scenario_of, plan, is_passed_over, GuestTurn, TurnBy, Turn, Control, Going, Trapped, Free, standing_of, control_after, control, is_trapped, Entry, How, Item, Sent, Parts, Clause, is_free, is_planned, ending, Participant, Participation, participation_of, schedule_by, HappensBy, StandsFor, does}
 use Rattle.std.proofs.Common.{Vec, Global}
-use Rattle.pr_script.specs.Scripts.{Configuration}
-use Rattle.pr_script.specs.Takes.{take}
 use Rattle.pr_roles.specs.declared.parts.Nexus.{Nexus as NexusPart}
-use Rattle.pr_roles.specs.Worlds.{going_or_trapped}
 use Rattle.pr_roles.specs.Schedules.{HostTurn, SendsUnless}
+use Rattle.pr_audit.proofs.lemmas.Auditing.Judgements.{free_taken}
+use Rattle.pr_audit.proofs.lemmas.Auditing.Parts.{role_at}
 use Rattle.pr_world.specs.inside.Participations.{items_of, participation}
-use Rattle.pr_world.specs.Ends.{Ending}
+use Rattle.pr_audit.specs.Ends.{Ending}
 use Rattle.pr_world.proofs.lemmas.Participations.Others.{at_participation, control_at, has_task, plan_at, rests, sends, with_participation, world_by}
 use Rattle.pr_world.proofs.lemmas.Turns.Events.{happens_at_participation}
 use Rattle.pr_world.specs.declared.act.Act.{Act}
@@ -76,13 +75,6 @@ turn_of_seats wanted s u v xs es h e x y stands there at acts =
 
 -- ---- who is a guest stays one
 
-pub free_taken : (line : ℕ) (l : Configuration) (r : Reply) → is_free (control_after line (Going l) r) ≡ false
-free_taken line l r = at (take l r)
-  where
-    at : (o : Option Configuration) → is_free (going_or_trapped line o) ≡ false
-    at None = refl
-    at (Some m) = refl
-
 free_host : (so : How) (o : Option Standing) (h : ℕ) (x : Participation) (u : UnitState) (e : Option Entry) (y : Participation) (v : UnitState) → ((line : ℕ) (r : Reply) → is_free (control_after line x.control r) ≡ is_free x.control)
     → HostActs so o h x u e y v → is_free y.control ≡ is_free x.control
 free_host so (Some (ready line c)) h x u (Some e) y v same acts = ap (λ s. is_free s.control) acts.1 ∙ same line e.reply
@@ -134,15 +126,6 @@ turned wanted s u v ps es h e p q stands there at acts hosts =
       };
     }
 
--- ---- the parts of a scenario
-
--- the role of the nexus at this place
-pub role_at : (p : Parts) (h : ℕ) (n : NexusPart) → h < length (scenario_of p).nexuses → n ≡ get_or p.nexuses.items h n → n.role.clauses.items ≡ role (scenario_of p) h
-unfolding scenario_of
-role_at p h n there is =
-    let among : h < length p.nexuses.items = rw (← length-map p.nexuses.items nexus_of) there in
-    sym (ap (λ o. option_map_or (λ m. m.role) o []) (slice_get-map nexus_of p.nexuses.items h ∙ ap (option_map nexus_of) (slice_get-get_or p.nexuses.items h n among ∙ ap Some (sym is))))
-
 pub turn_made : (so wanted : How) (p q : Parts) (u v : UnitState) (ps : List Participant) (es fs : List Item) (h i : ℕ) (e : Option Entry) (n : NexusPart) (x y : Participant)
     → StandsFor (scenario_of p) u (map participation_of ps) → h < length (scenario_of p).nexuses → q ≡ p → i ≡ h → n ≡ get_or q.nexuses.items i n → x ≡ get_or ps i x
     → so ≡ how_now (scenario_of p) es h wanted → Acts so n.role.clauses.items h (participation_of x) u e (participation_of y) v → v.registry.hosts ≡ u.registry.hosts → fs ≡ es ++ items_of e
@@ -154,13 +137,6 @@ turn_made so wanted p q u v ps es fs h i e n x y stands there same at nexus part
     subst (λ j. IsTurned (scenario_of p) u ps es h wanted e v (slice_set ps j y) fs) (sym at)
     (subst (λ gs. IsTurned (scenario_of p) u ps es h wanted e v (slice_set ps h y) gs) (sym added)
     (turned wanted (scenario_of p) u v ps es h e x y stands there (sym (participation ∙ ap (λ j. get_or ps j x) at)) acting hosts))
-
-pub nexus_within : (p q : Parts) (h i : ℕ) → h < length (scenario_of p).nexuses → q ≡ p → i ≡ h → i < vec_len q.nexuses
-nexus_within p q h i there same at =
-    let parts = count_of_parts p in
-    let items = ap (λ r. length r.nexuses.items) same in
-    let len = q.nexuses.ok.0 in
-    omega arith
 
 pub player_within : (s : Scenario) (u : UnitState) (ps : Vec Participant Global) (h i : ℕ) → StandsFor s u (map participation_of ps.items) → h < length s.nexuses → i ≡ h → i < vec_len ps
 player_within s u ps h i stands there at =

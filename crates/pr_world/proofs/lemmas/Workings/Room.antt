@@ -15,7 +15,7 @@ use Rattle.pr_world.specs.Rooms.{room_of, room_by}
 use Rattle.pr_world.specs.inside.Workings.{rooms}
 use Rattle.pr_world.proofs.lemmas.Courses.Counts.{sent-push, sent_other, sent_own, all_have_room, one_has_room}
 use Rattle.pr_world.proofs.lemmas.Turns.Nexuses.{HasItsTask, HostIsReady, GuestIsReady, means}
-use Rattle.pr_world.proofs.lemmas.Replays.Runs.{run_then}
+use Rattle.pr_audit.proofs.lemmas.Auditing.Histories.{run_then}
 
 -- ---- guests keep to their plans
 

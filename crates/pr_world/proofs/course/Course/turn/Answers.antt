@@ -1,6 +1,7 @@
 use Rattle.pr_world.proofs.Common.{Some, sym, ap, ◌∙◌, how_now, scenario_of}
 use Rattle.std.proofs.Common.{rules}
-use Rattle.pr_world.proofs.lemmas.Turns.Schedules.{nexus_within, turn_made, doing_at, sends_entry, nothing_added, entry_added, trapped_here}
+use Rattle.pr_world.proofs.lemmas.Turns.Schedules.{turn_made, doing_at, sends_entry, nothing_added, entry_added, trapped_here}
+use Rattle.pr_audit.proofs.lemmas.Auditing.Parts.{nexus_within}
 use Rattle.pr_world.proofs.lemmas.Replays.Runs.{reached_more}
 use Rattle.pr_world.proofs.course.Course.turn.Goals as goal
 

@@ -1,0 +1,3 @@
+pub mod Auditing
+pub mod Auditors
+pub mod Audits

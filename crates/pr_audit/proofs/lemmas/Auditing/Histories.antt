@@ -1,0 +1,131 @@
+-- The histories of runs: each event adds one item, and what stands before the last one is the history of a run.
+use Rattle.pr_audit.proofs.Common.{◌≡◌, ℕ, List, [], ◌∷◌, ◌++◌, take, sym, refl, ap, ◌∙◌, subst, append-nil, spelling, UnitState, IsLegal, Scenario, World, entry_of, Event, Host, Guest, UnitReset, Happens, world_from, Item, Sent, Reset, Adds, Reaches}
+use Rattle.std.proofs.Common.{drop}
+use Rattle.std.proofs.lemmas.List.{append_assoc, take-append-drop}
+use Rattle.pr_roles.specs.Worlds.{Run}
+
+-- ---- one event more
+
+pub run_then : (s : Scenario) (w v x : World) (es : List Event) (e : Event) → Run s w es v → Happens s v e x → Run s w (es ++ e ∷ []) x
+run_then s w v x [] e run happens = (x, subst (λ u. Happens s u e x) run happens, refl)
+run_then s w v x (f ∷ fs) e run happens = (run.0, run.1, run_then s run.0 v x fs e run.2 happens)
+
+-- ---- the last of a list
+
+not_nil : {X : Type 0} (xs : List X) (x : X) → xs ++ x ∷ [] ≡ [] → ⊥
+not_nil [] x is = let bad : x ∷ [] ≡ [] = is in cc
+not_nil (y ∷ xs) x is = let bad : y ∷ (xs ++ x ∷ []) ≡ [] = is in cc
+
+pub last_same : {X : Type 0} (xs ys : List X) (x y : X) → xs ++ x ∷ [] ≡ ys ++ y ∷ [] → (xs ≡ ys) × (x ≡ y)
+last_same [] [] x y is = let same : x ∷ [] ≡ y ∷ [] = is in (refl, cc)
+last_same [] (b ∷ ys) x y is =
+    let same : x ∷ [] ≡ b ∷ (ys ++ y ∷ []) = is in
+    let rest : ys ++ y ∷ [] ≡ [] = cc in
+    absurd (not_nil ys y rest)
+last_same (a ∷ xs) [] x y is =
+    let same : a ∷ (xs ++ x ∷ []) ≡ y ∷ [] = is in
+    let rest : xs ++ x ∷ [] ≡ [] = cc in
+    absurd (not_nil xs x rest)
+last_same (a ∷ xs) (b ∷ ys) x y is =
+    let same : a ∷ (xs ++ x ∷ []) ≡ b ∷ (ys ++ y ∷ []) = is in
+    let first : a ≡ b = cc in
+    let rest : xs ++ x ∷ [] ≡ ys ++ y ∷ [] = cc in
+    let parts = last_same xs ys x y rest in
+    (λ i. first i ∷ parts.0 i, parts.1)
+
+-- ---- the last event of a run
+
+record HasAdded (w v : World) : Type 0 where
+  pub item : Item
+  pub added : v.history ≡ w.history ++ item ∷ []
+
+has_added : (s : Scenario) (w : World) (event : Event) (v : World) → Happens s w event v → HasAdded w v
+has_added s w (Host h so) v sends = record { item = Sent (entry_of h (spelling sends.command) sends.reply); added = ap (λ x. x.history) sends.world }
+has_added s w (Guest g wire so) v sends = record { item = Sent (entry_of g wire sends.reply); added = ap (λ x. x.history) sends.world }
+has_added s w UnitReset v resets = record { item = Reset; added = ap (λ x. x.history) resets.world }
+
+record HasLast (s : Scenario) (w v : World) : Type 0 where
+  pub before : World
+  pub events : List Event
+  pub run : Run s w events before
+  pub event : Event
+  pub happens : Happens s before event v
+
+has_last : (s : Scenario) (w v : World) (event : Event) (events : List Event) → Run s w (event ∷ events) v → HasLast s w v
+has_last s w v event [] run = record {
+  before = w;
+  events = [];
+  run = refl;
+  event = event;
+  happens = subst (Happens s w event) (sym run.2) run.1;
+}
+has_last s w v event (other ∷ events) run =
+    let last = has_last s run.0 v other events run.2 in
+    record {
+      before = last.before;
+      events = event ∷ last.events;
+      run = (run.0, run.1, last.run);
+      event = last.event;
+      happens = last.happens;
+    }
+
+-- ---- worlds that a history leads to
+
+pub reached_legal : (s : Scenario) (u : UnitState) (history : List Item) (w : World) → Reaches s u history w → IsLegal s u history
+reached_legal s u history w reaches = (reaches.events, w, reaches.run, reaches.items)
+
+pub reaches_more : (s : Scenario) (u : UnitState) (history : List Item) (w : World) (e : Item) (v : World) → Reaches s u history w → Adds s w e v → Reaches s u (history ++ e ∷ []) v
+reaches_more s u history w e v reaches adds = record {
+  events = reaches.events ++ adds.event ∷ [];
+  run = run_then s (world_from s u) w v reaches.events adds.event reaches.run adds.happens;
+  items = adds.added ∙ ap (λ es. es ++ e ∷ []) reaches.items;
+}
+
+-- before the last item there was a world that the others led to
+pub record ReachedBefore (s : Scenario) (u : UnitState) (history : List Item) (e : Item) (w : World) : Type 0 where
+  pub before : World
+  pub reaches : Reaches s u history before
+  pub adds : Adds s before e w
+
+pub reached_before : (s : Scenario) (u : UnitState) (history : List Item) (e : Item) (w : World) → Reaches s u (history ++ e ∷ []) w → ReachedBefore s u history e w
+reached_before s u history e w reaches = by reaches.events reaches.run
+  where
+    by : (events : List Event) → Run s (world_from s u) events w → ReachedBefore s u history e w
+    by [] run = absurd (not_nil history e (sym reaches.items ∙ ap (λ x. x.history) run))
+    by (event ∷ events) run =
+        let last = has_last s (world_from s u) w event events run in
+        let new = has_added s last.before last.event w last.happens in
+        let same = last_same last.before.history history new.item e (sym new.added ∙ reaches.items) in
+        record {
+          before = last.before;
+          reaches = record { events = last.events; run = last.run; items = same.0 };
+          adds = record {
+            event = last.event;
+            happens = last.happens;
+            added = new.added ∙ ap (λ f. last.before.history ++ f ∷ []) same.1;
+          };
+        }
+
+-- a run without history has not begun
+pub reached_at_first : (s : Scenario) (u : UnitState) (w : World) → Reaches s u [] w → w ≡ world_from s u
+reached_at_first s u w reaches = by reaches.events reaches.run
+  where
+    by : (events : List Event) → Run s (world_from s u) events w → w ≡ world_from s u
+    by [] run = run
+    by (event ∷ events) run =
+        let last = has_last s (world_from s u) w event events run in
+        let new = has_added s last.before last.event w last.happens in
+        absurd (not_nil last.before.history new.item (sym new.added ∙ reaches.items))
+
+-- ---- the beginnings of a legal history are legal
+
+pub legal_before : (s : Scenario) (u : UnitState) (xs ys : List Item) → IsLegal s u (xs ++ ys) → IsLegal s u xs
+legal_before s u xs [] legal = subst (IsLegal s u) (append-nil xs) legal
+legal_before s u xs (e ∷ ys) legal =
+    let more = legal_before s u (xs ++ e ∷ []) ys (subst (IsLegal s u) (sym (append_assoc xs (e ∷ []) ys)) legal) in
+    let reaches : Reaches s u (xs ++ e ∷ []) more.1 = record { events = more.0; run = more.2; items = more.3 } in
+    let before = reached_before s u xs e more.1 reaches in
+    reached_legal s u xs before.before before.reaches
+
+pub legal_take : (s : Scenario) (u : UnitState) (n : ℕ) (history : List Item) → IsLegal s u history → IsLegal s u (take n history)
+legal_take s u n history legal = legal_before s u (take n history) (drop n history) (subst (IsLegal s u) (sym (take-append-drop n history)) legal)

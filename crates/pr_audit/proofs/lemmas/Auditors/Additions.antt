@@ -1,0 +1,239 @@
+-- The items that some event adds to a world are just those that may come next.
+use Rattle.pr_audit.proofs.Common.{◌≡◌, ℕ, ◌<◌, ◌≤◌, Bool, true, false, List, [], ◌∷◌, ◌++◌, length, get_or, IsTrue, slice_get, slice_set, Some, None, Option, option_map, sym, refl, ap, ◌∙◌, subst, arith, option_map_or, map-set_same, false≢true, length-map, slice_get-map, slice_get-get_or, spelling, Command, Reply, Request, Plain, UnitState, ready, Answers, may_come, Task, Scripted, Planned, Nexus, role, Scenario, Control, Going, Trapped, Free, standing_of, control_after, World, control, entry_of, Event, Host, Guest, UnitReset, is_guest_task, Happens, Entry, How, Item, Sent, Reset, Adds, IsTried, is_free, ActFor, is_planned, IsJudged}
+use Rattle.std.proofs.lemmas.List.{append_cancel_left}
+use Rattle.std.proofs.lemmas.Option.{slice_get_past}
+use Rattle.pr_cdb.specs.declared.reply.Status.{Status}
+use Rattle.pr_cdb.specs.declared.reply.Status.TheVariants as status
+use Rattle.pr_cdb.specs.Statuses.{is_busy_status, is_full_status}
+use Rattle.pr_cdb.specs.declared.wire.Wire.{Wire}
+use Rattle.pr_unit.proofs.lemmas.Steps.Statuses.{steps_are_never_busy}
+use Rattle.pr_roles.specs.declared.how.How.TheVariants as how
+use Rattle.pr_roles.specs.Worlds.{GuestSends, is_guest, after as world_after}
+use Rattle.pr_audit.specs.inside.Auditing.{how_of, MayCome}
+use Rattle.pr_audit.proofs.lemmas.Auditing.Judgements.{may_fixed, free_judged, hosts_judged}
+
+-- the world after this entry, of one that acts so then
+abbrev pub with_entry : World → Entry → Control → UnitState → World
+with_entry w e after v = record {
+  unit = v;
+  controls = slice_set w.controls e.host after;
+  history = w.history ++ Sent e ∷ [];
+}
+
+-- ---- what may come is added by an event
+
+adds_by : (so : How) (s : Scenario) (w : World) (e : Entry) (k after : Control) (v : UnitState) → control w e.host ≡ k → (is_free k ≡ true → is_guest s e.host ≡ true)
+    → IsTrue (may_come s w.history e.host so) → MayCome so k (role s e.host) w.unit e after v → Adds s w (Sent e) (with_entry w e after v)
+adds_by so s w e (Going l) after v is guest room may =
+    let takes = may.takes ∙ ap (λ k. control_after may.line k e.reply) (sym is) in
+    record {
+      event = Host e.host so;
+      happens = record {
+        room = room;
+        line = may.line;
+        command = may.command;
+        ready = ap standing_of is ∙ may.ready;
+        reply = e.reply;
+        unit = v;
+        answer = may.answer;
+        world = λ i. record {
+          unit = v;
+          controls = slice_set w.controls e.host (takes i);
+          history = w.history ++ Sent (entry_of e.host (may.wire i) e.reply) ∷ [];
+        };
+      };
+      added = refl;
+    }
+adds_by so s w e (Trapped line) after v is guest room may = absurd may
+adds_by so s w e Free after v is guest room may =
+    let takes : after ≡ control_after 0 (control w e.host) e.reply = may.1 ∙ ap (λ k. control_after 0 k e.reply) (sym is) in
+    record {
+      event = Guest e.host e.wire so;
+      happens = record {
+        room = room;
+        guest = guest refl;
+        bytes = may.0.bytes;
+        lengths = may.0.lengths;
+        request = may.0.request;
+        read = may.0.read;
+        reply = e.reply;
+        unit = v;
+        answer = may.0.answer;
+        permitted = may.0.permitted;
+        world = λ i. record {
+          unit = v;
+          controls = slice_set w.controls e.host (takes i);
+          history = w.history ++ Sent e ∷ [];
+        };
+      };
+      added = refl;
+    }
+
+-- ---- what an event adds may come
+
+by_unit : (t : Status) → is_busy_status t ≡ false → is_full_status t ≡ false → how.Plain ≡ how_of t
+by_unit status.Busy busy full = absurd (false≢true (sym busy))
+by_unit status.TaskFull busy full = absurd (false≢true (sym full))
+by_unit _ busy full = refl
+
+-- the status tells how a command was answered
+told_how : (so : How) (u : UnitState) (h : ℕ) (q : Request) (r : Reply) (v : UnitState) → Answers so u h q r v → so ≡ how_of r.status
+told_how how.Plain u h q r v step = let never = steps_are_never_busy u h q r v step in by_unit r.status never.0 never.1
+told_how _ u h q r v refused = ap (λ (x : Reply). how_of x.status) (sym refused.0)
+
+-- the entry may come, and leads to this world; who sends what it likes is a guest
+record Comes (s : Scenario) (w : World) (e : Entry) (x : World) : Type 0 where
+  pub room : IsTrue (may_come s w.history e.host (how_of e.reply.status))
+  pub after : Control
+  pub unit : UnitState
+  pub may : MayCome (how_of e.reply.status) (control w e.host) (role s e.host) w.unit e after unit
+  pub guest : is_free (control w e.host) ≡ true → is_guest s e.host ≡ true
+  pub world : x ≡ with_entry w e after unit
+
+host_comes : (so : How) (s : Scenario) (w : World) (h line : ℕ) (c : Command) (r : Reply) (v : UnitState) (k : Control) → control w h ≡ k → standing_of k ≡ Some (ready line c)
+    → IsTrue (may_come s w.history h so) → Answers so w.unit h (Plain c) r v → Comes s w (entry_of h (spelling c) r) (world_after w h line (spelling c) r v)
+host_comes so s w h line c r v (Going l) is stands room answer =
+    let told = told_how so w.unit h (Plain c) r v answer in
+    record {
+      room = subst (λ k. IsTrue (may_come s w.history h k)) told room;
+      after = control_after line (control w h) r;
+      unit = v;
+      may = subst (λ k. MayCome (how_of r.status) k (role s h) w.unit (entry_of h (spelling c) r) (control_after line k r) v) (sym is)
+          (record {
+            line = line;
+            command = c;
+            ready = stands;
+            wire = refl;
+            answer = subst (λ k. Answers k w.unit h (Plain c) r v) told answer;
+            takes = refl;
+          });
+      guest = λ free. let bad : false ≡ true = sym (ap is_free is) ∙ free in cc;
+      world = refl;
+    }
+host_comes so s w h line c r v _ is stands room answer = let bad : None ≡ Some (ready line c) = stands in cc
+
+guest_comes : (so : How) (s : Scenario) (w : World) (g : ℕ) (wire : Wire) (x : World) → control w g ≡ Free → (sends : GuestSends s w g wire so x)
+    → Comes s w (entry_of g wire sends.reply) (world_after w g 0 wire sends.reply sends.unit)
+guest_comes so s w g wire x is sends =
+    let e = entry_of g wire sends.reply in
+    let told = told_how so w.unit g sends.request sends.reply sends.unit sends.answer in
+    record {
+      room = subst (λ k. IsTrue (may_come s w.history g k)) told sends.room;
+      after = control_after 0 (control w g) sends.reply;
+      unit = sends.unit;
+      may = subst (λ k. MayCome (how_of sends.reply.status) k (role s g) w.unit e (control_after 0 k sends.reply) sends.unit) (sym is) (
+        record {
+          bytes = sends.bytes;
+          lengths = sends.lengths;
+          request = sends.request;
+          read = sends.read;
+          answer = subst (λ k. Answers k w.unit g sends.request sends.reply sends.unit) told sends.answer;
+          permitted = sends.permitted;
+        },
+        refl,
+      );
+      guest = λ free. sends.guest;
+      world = refl;
+    }
+
+-- the entry that was added is the one that the event added
+pub same_item : (es fs : List Item) (i j : Item) → fs ≡ es ++ i ∷ [] → fs ≡ es ++ j ∷ [] → i ≡ j
+same_item es fs i j one two = let same : i ∷ [] ≡ j ∷ [] = append_cancel_left es (i ∷ []) (j ∷ []) (sym one ∙ two) in cc
+
+pub same_entry : (es fs : List Item) (d e : Entry) → fs ≡ es ++ Sent d ∷ [] → fs ≡ es ++ Sent e ∷ [] → d ≡ e
+same_entry es fs d e one two = let same : Sent d ≡ Sent e = same_item es fs (Sent d) (Sent e) one two in cc
+
+comes_as : (s : Scenario) (w : World) (d e : Entry) (x y : World) → d ≡ e → y ≡ x → Comes s w d y → Comes s w e x
+comes_as s w d e x y one two comes = subst (λ z. Comes s w e z) two (subst (λ f. Comes s w f y) one comes)
+
+comes_by : (s : Scenario) (w : World) (e : Entry) (x : World) (event : Event) → ((g : ℕ) → is_guest s g ≡ true → control w g ≡ Free) → Happens s w event x → x.history ≡ w.history ++ Sent e ∷ []
+    → Comes s w e x
+comes_by s w e x (Host h so) free sends added =
+    let same = same_entry w.history x.history (entry_of h (spelling sends.command) sends.reply) e (ap (λ z. z.history) sends.world) added in
+    comes_as s w _ e x _ same (sym sends.world) (host_comes so s w h sends.line sends.command sends.reply sends.unit (control w h) refl sends.ready sends.room sends.answer)
+comes_by s w e x (Guest g wire so) free sends added =
+    let same = same_entry w.history x.history (entry_of g wire sends.reply) e (ap (λ z. z.history) sends.world) added in
+    comes_as s w _ e x _ same (sym sends.world) (guest_comes so s w g wire x (free g sends.guest) sends)
+comes_by s w e x UnitReset free resets added =
+    let same = same_item w.history x.history Reset (Sent e) (ap (λ z. z.history) resets.world) added in cc
+
+-- ---- just the guests send what they like
+
+free_control : (k : Control) → is_free k ≡ true → k ≡ Free
+free_control Free is = refl
+free_control _ is = let bad : false ≡ true = is in cc
+
+planned_guest : (t : Task) → is_guest_task (Some t) ≡ is_planned t
+planned_guest (Scripted script budget) = refl
+planned_guest (Planned commands) = refl
+
+free_by : (o : Option Control) (p : Option Nexus) → option_map is_free o ≡ option_map (λ n. is_planned n.task) p → is_guest_task (option_map_or (λ n. Some n.task) p None) ≡ true
+    → option_map_or (λ c. c) o Free ≡ Free
+free_by None p same guest = refl
+free_by (Some k) None same guest = let bad : false ≡ true = guest in cc
+free_by (Some k) (Some n) same guest =
+    let both : Some (is_free k) ≡ Some (is_planned n.task) = same in
+    let one : is_free k ≡ is_planned n.task = cc in
+    free_control k (one ∙ (sym (planned_guest n.task) ∙ guest))
+
+guest_by : (o : Option Control) (p : Option Nexus) (n : Nexus) → option_map is_free o ≡ option_map (λ n. is_planned n.task) p → p ≡ Some n → is_free (option_map_or (λ c. c) o Free) ≡ true
+    → is_guest_task (option_map_or (λ n. Some n.task) p None) ≡ true
+guest_by o None n same there free = let bad : None ≡ Some n = there in cc
+guest_by None (Some m) n same there free = let bad : None ≡ Some (is_planned m.task) = same in cc
+guest_by (Some k) (Some m) n same there free =
+    let both : Some (is_free k) ≡ Some (is_planned m.task) = same in
+    let one : is_free k ≡ is_planned m.task = cc in
+    planned_guest m.task ∙ (sym one ∙ free)
+
+tasks_at : (s : Scenario) (w : World) (h : ℕ) → ActFor s w → option_map is_free (slice_get w.controls h) ≡ option_map (λ n. is_planned n.task) (slice_get s.nexuses h)
+tasks_at s w h acts = sym (slice_get-map is_free w.controls h) ∙ (ap (λ l. slice_get l h) acts.tasks ∙ slice_get-map (λ n. is_planned n.task) s.nexuses h)
+
+pub guests_free : (s : Scenario) (w : World) → ActFor s w → (g : ℕ) → is_guest s g ≡ true → control w g ≡ Free
+guests_free s w acts g guest = free_by (slice_get w.controls g) (slice_get s.nexuses g) (tasks_at s w g acts) guest
+
+free_guests : (s : Scenario) (w : World) (h : ℕ) → ActFor s w → h < length s.nexuses → is_free (control w h) ≡ true → is_guest s h ≡ true
+free_guests s w h acts there free = by s.nexuses there (tasks_at s w h acts)
+  where
+    by : (ns : List Nexus) → h < length ns → option_map is_free (slice_get w.controls h) ≡ option_map (λ n. is_planned n.task) (slice_get ns h)
+        → is_guest_task (option_map_or (λ n. Some n.task) (slice_get ns h) None) ≡ true
+    by [] there same = absurd (omega arith)
+    by (n ∷ ns) there same = guest_by (slice_get w.controls h) (slice_get (n ∷ ns) h) (get_or (n ∷ ns) h n) same (slice_get-get_or (n ∷ ns) h n there) free
+
+-- ---- an entry that was judged
+
+comes : (s : Scenario) (w : World) (e : Entry) (x : World) → ActFor s w → Adds s w (Sent e) x → Comes s w e x
+comes s w e x acts adds = comes_by s w e x adds.event (guests_free s w acts) adds.happens adds.added
+
+pub judged_tried : (s : Scenario) (w : World) (e : Entry) (k after : Control) (b : Bool) (v : UnitState) → ActFor s w → e.host < length s.nexuses → control w e.host ≡ k
+    → IsTrue (may_come s w.history e.host (how_of e.reply.status)) → IsJudged (how_of e.reply.status) k (role s e.host) w.unit e b after v → IsTried s w (Sent e) b (with_entry w e after v)
+judged_tried s w e k after true v acts there is room may = (
+  adds_by (how_of e.reply.status) s w e k after v is (λ free. free_guests s w e.host acts there (ap is_free is ∙ free)) room may,
+  λ x adds. let c = comes s w e x acts adds in
+      let fixed = may_fixed (how_of e.reply.status) k (role s e.host) w.unit e after c.after v c.unit may (subst (λ k. MayCome (how_of e.reply.status) k (role s e.host) w.unit e c.after c.unit) is c.may) in
+      c.world ∙ (λ i. with_entry w e (fixed.0 i) (fixed.1 i)),
+)
+judged_tried s w e k after false v acts there is room not =
+    λ x adds. let c = comes s w e x acts adds in
+    not.2 c.after c.unit (subst (λ k. MayCome (how_of e.reply.status) k (role s e.host) w.unit e c.after c.unit) is c.may)
+
+-- none is refused more often than is declared
+pub none_left : (s : Scenario) (w : World) (e : Entry) (x : World) → ActFor s w → may_come s w.history e.host (how_of e.reply.status) ≡ false → Adds s w (Sent e) x → ⊥
+none_left s w e x acts over adds = false≢true (sym over ∙ (comes s w e x acts adds).room)
+
+-- nobody sends under a number past the last
+pub none_past : (s : Scenario) (w : World) (e : Entry) (x : World) → ActFor s w → length s.nexuses ≤ e.host → Adds s w (Sent e) x → ⊥
+none_past s w e x acts past adds =
+    let c = comes s w e x acts adds in
+    let length : length w.controls ≡ length s.nexuses = sym (length-map w.controls is_free) ∙ (ap length acts.tasks ∙ length-map s.nexuses (λ n. is_planned n.task)) in
+    let free : control w e.host ≡ Free = ap (λ o. option_map_or (λ c. c) o Free) (slice_get_past w.controls e.host (rw length past)) in
+    let nobody : is_guest s e.host ≡ false = ap (λ o. is_guest_task (option_map_or (λ n. Some n.task) o None)) (slice_get_past s.nexuses e.host past) in
+    let bad : false ≡ true = sym nobody ∙ c.guest (ap is_free free) in
+    cc
+
+-- whatever the answer, there is still one for each that the scenario declares
+pub judged_acts : (s : Scenario) (w : World) (e : Entry) (k after : Control) (b : Bool) (v : UnitState) (es : List Item) → ActFor s w → get_or w.controls e.host k ≡ k
+    → IsJudged (how_of e.reply.status) k (role s e.host) w.unit e b after v → ActFor s (record { unit = v; controls = slice_set w.controls e.host after; history = es })
+judged_acts s w e k after b v es acts is judged = record {
+  hosts = hosts_judged (how_of e.reply.status) k (role s e.host) w.unit e b after v judged ∙ acts.hosts;
+  tasks = map-set_same is_free w.controls e.host after k (free_judged (how_of e.reply.status) k (role s e.host) w.unit e b after v judged ∙ ap is_free (sym is)) ∙ acts.tasks;
+}

@@ -1,0 +1,98 @@
+-- An entry that one among the senders was asked for.
+use Rattle.pr_audit.proofs.Common.{◌≡◌, ℕ, ◌<◌, ◌≤◌, Bool, true, false, List, [], ◌∷◌, ◌++◌, map, length, get_or, IsTrue, slice_set, Some, vec_len, sym, refl, ap, ◌∙◌, subst, arith, option_map_or, get_or-map, length-map, map-set, slice_get-get_or, UnitState, may_come, Task, Scripted, Planned, Nexus, role, Scenario, scenario_of, Free, World, control, control_of, Entry, How, Item, Sent, Parts, control_by, Adds, IsTried, is_free, ActFor, is_planned, IsJudged}
+use Rattle.std.proofs.Common.{Vec, Global}
+use Rattle.pr_roles.specs.declared.parts.Nexus.{Nexus as NexusPart}
+use Rattle.pr_audit.specs.declared.sender.Sender.{Sender}
+use Rattle.pr_audit.specs.inside.Auditing.{how_of}
+use Rattle.pr_audit.proofs.lemmas.Auditing.Parts.{count_of_parts, role_at}
+use Rattle.pr_audit.proofs.lemmas.Auditors.Additions.{judged_tried, judged_acts, none_left, none_past}
+
+-- ---- the senders
+
+abbrev pub world_of : UnitState → List Sender → List Item → World
+world_of u senders es = record { unit = u; controls = map control_by senders; history = es }
+
+pub free_from : (t : Task) → is_free (control_of t) ≡ is_planned t
+free_from (Scripted script budget) = refl
+free_from (Planned commands) = refl
+
+tasks_begun : (ns : List Nexus) → map is_free (map (λ n. control_of n.task) ns) ≡ map (λ n. is_planned n.task) ns
+tasks_begun [] = refl
+tasks_begun (n ∷ ns) = λ i. free_from n.task i ∷ tasks_begun ns i
+
+pub begun_acts : (s : Scenario) (u : UnitState) (senders : List Sender) → u.registry.hosts ≡ length s.nexuses → map control_by senders ≡ map (λ n. control_of n.task) s.nexuses → ActFor s (world_of u senders [])
+begun_acts s u senders hosts controls = record { hosts = hosts; tasks = ap (map is_free) controls ∙ tasks_begun s.nexuses }
+
+-- what was said of a world after one history holds after another
+others_acts : (s : Scenario) (u : UnitState) (senders : List Sender) (es fs : List Item) → ActFor s (world_of u senders es) → ActFor s (world_of u senders fs)
+others_acts s u senders es fs acts = record { hosts = acts.hosts; tasks = acts.tasks }
+
+length-senders : (s : Scenario) (u : UnitState) (senders : List Sender) (es : List Item) → ActFor s (world_of u senders es) → length senders ≡ length s.nexuses
+length-senders s u senders es acts =
+    sym (length-map (map control_by senders) is_free ∙ length-map senders control_by) ∙ (ap length acts.tasks ∙ length-map s.nexuses (λ n. is_planned n.task))
+
+-- ---- the parts of a scenario
+
+past_parts : (p q : Parts) (h i n : ℕ) → q ≡ p → i ≡ h → n ≡ vec_len q.nexuses → n ≤ i → length (scenario_of p).nexuses ≤ h
+past_parts p q h i n same at len past =
+    let parts = count_of_parts p in
+    let items = ap (λ r. length r.nexuses.items) same in
+    let all = q.nexuses.ok.0 in
+    omega arith
+
+pub within_parts : (p q : Parts) (h i n : ℕ) → q ≡ p → i ≡ h → n ≡ vec_len q.nexuses → i < n → h < length (scenario_of p).nexuses
+within_parts p q h i n same at len there =
+    let parts = count_of_parts p in
+    let items = ap (λ r. length r.nexuses.items) same in
+    let all = q.nexuses.ok.0 in
+    omega arith
+
+pub sender_within : (s : Scenario) (u : UnitState) (senders : Vec Sender Global) (es : List Item) (h i : ℕ) → ActFor s (world_of u senders.items es) → i ≡ h → h < length s.nexuses → i < vec_len senders
+sender_within s u senders es h i acts at there =
+    let all = length-senders s u senders.items es acts in
+    let len = senders.ok.0 in
+    omega arith
+
+pub nobody_tried : (p q : Parts) (u : UnitState) (senders : List Sender) (e : Entry) (i n : ℕ) → ActFor (scenario_of p) (world_of u senders []) → q ≡ p → i ≡ e.host → n ≡ vec_len q.nexuses → n ≤ i
+    → (before : List Item) (x : World) → Adds (scenario_of p) (world_of u senders before) (Sent e) x → ⊥
+nobody_tried p q u senders e i n acts same at len past before x adds =
+    none_past (scenario_of p) (world_of u senders before) e x (others_acts (scenario_of p) u senders [] before acts) (past_parts p q e.host i n same at len past) adds
+
+-- a refusal of which none is left
+pub none_tried : (so : How) (s : Scenario) (u : UnitState) (senders : List Sender) (e : Entry) (before : List Item) → ActFor s (world_of u senders []) → so ≡ how_of e.reply.status
+    → may_come s before e.host so ≡ false → (x : World) → Adds s (world_of u senders before) (Sent e) x → ⊥
+none_tried so s u senders e before acts told over x adds =
+    none_left s (world_of u senders before) e x (others_acts s u senders [] before acts) (subst (λ k. may_come s before e.host k ≡ false) told over) adds
+
+-- ---- the sender of the entry
+
+module _ (so : How) (p q : Parts) (u v : UnitState) (senders : List Sender) (e : Entry) (i : ℕ) (n : NexusPart) (x y : Sender) (b : Bool) (acts : ActFor (scenario_of p) (world_of u senders []))
+    (there : e.host < length (scenario_of p).nexuses) (same : q ≡ p) (at : i ≡ e.host) (nexus : n ≡ get_or q.nexuses.items i n) (participation : x ≡ get_or senders i x)
+    (told : so ≡ how_of e.reply.status) (judged : IsJudged so (control_by x) n.role.clauses.items u e b (control_by y) v) where
+  by_role : IsJudged (how_of e.reply.status) (control_by x) (role (scenario_of p) e.host) u e b (control_by y) v
+  by_role =
+      let named = nexus ∙ (ap (λ r. get_or r.nexuses.items i n) same ∙ ap (λ j. get_or p.nexuses.items j n) at) in
+      subst (λ clauses. IsJudged (how_of e.reply.status) (control_by x) clauses u e b (control_by y) v) (role_at p e.host n there named)
+      (subst (λ k. IsJudged k (control_by x) n.role.clauses.items u e b (control_by y) v) told judged)
+
+  sender_here : get_or (map control_by senders) e.host (control_by x) ≡ control_by x
+  sender_here = get_or-map control_by senders e.host x ∙ ap control_by (sym (participation ∙ ap (λ j. get_or senders j x) at))
+
+  control_here : (before : List Item) → control (world_of u senders before) e.host ≡ control_by x
+  control_here before =
+      let among : e.host < length (map control_by senders) = rw (length-map senders control_by, length-senders (scenario_of p) u senders [] acts) there in
+      ap (λ o. option_map_or (λ c. c) o Free) (slice_get-get_or (map control_by senders) e.host (control_by x) among ∙ ap Some sender_here)
+
+  controls_after : map control_by (slice_set senders i y) ≡ slice_set (map control_by senders) e.host (control_by y)
+  controls_after = map-set control_by senders i y ∙ ap (λ j. slice_set (map control_by senders) j (control_by y)) at
+
+  pub sender_tried : (before : List Item) → may_come (scenario_of p) before e.host so ≡ true → IsTried (scenario_of p) (world_of u senders before) (Sent e) b (world_of v (slice_set senders i y) (before ++ Sent e ∷ []))
+  sender_tried before room =
+      subst (λ ks. IsTried (scenario_of p) (world_of u senders before) (Sent e) b (record { unit = v; controls = ks; history = before ++ Sent e ∷ [] })) (sym controls_after)
+      (judged_tried (scenario_of p) (world_of u senders before) e (control_by x) (control_by y) b v (others_acts (scenario_of p) u senders [] before acts) there (control_here before)
+      (subst (λ k. IsTrue (may_come (scenario_of p) before e.host k)) told room) by_role)
+
+  pub sender_acts : ActFor (scenario_of p) (world_of v (slice_set senders i y) [])
+  sender_acts =
+      subst (λ ks. ActFor (scenario_of p) (record { unit = v; controls = ks; history = [] })) (sym controls_after)
+      (judged_acts (scenario_of p) (world_of u senders []) e (control_by x) (control_by y) b v [] acts sender_here by_role)

@@ -1,0 +1,65 @@
+-- Agrees with docs/FORMATS.md, 'Auditing'.
+-- Histories that are followed item by item: which world they have led to, and what may come next.
+use Rattle.std.specs.Prelude.{◌≡◌, ℕ, Bool, true, false, List, [], ◌∷◌, ◌++◌, Some, length, map}
+use Rattle.pr_cdb.specs.declared.command.Command.{Command}
+use Rattle.pr_unit.specs.UnitStates.{UnitState}
+use Rattle.pr_script.specs.Scripts.{ready}
+use Rattle.pr_roles.specs.declared.item.Item.{Item}
+use Rattle.pr_roles.specs.declared.parts.Parts.{Parts}
+use Rattle.pr_roles.specs.Scenarios.{Scenario, Task, Scripted, Planned, scenario_of}
+use Rattle.pr_roles.specs.Worlds.{World, Event, Happens, Control, Going, Trapped, Free, standing_of, world_from}
+use Rattle.pr_audit.specs.declared.auditor.Auditor.{Auditor}
+use Rattle.pr_audit.specs.declared.sender.Sender.{Sender}
+use Rattle.pr_audit.specs.declared.sender.Sender.TheVariants as sender
+
+abbrev pub control_by : Sender → Control
+control_by (sender.Host l) = Going l
+control_by (sender.Trapped line) = Trapped line
+control_by sender.Guest = Free
+
+-- the world of an audit after this history
+abbrev pub world_at : Auditor → List Item → World
+world_at a history = record { unit = a.unit; controls = map control_by a.senders.items; history = history }
+
+-- some event adds the item
+pub record Adds (s : Scenario) (w : World) (i : Item) (v : World) : Type 0 where
+  pub event : Event
+  pub happens : Happens s w event v
+  pub added : v.history ≡ w.history ++ i ∷ []
+
+-- true: some event adds it, and whatever event does leads here; false: none does
+abbrev pub IsTried : Scenario → World → Item → Bool → World → Type 0
+IsTried s w i true v = Adds s w i v × ((x : World) → Adds s w i x → x ≡ v)
+IsTried s w i false v = (x : World) → Adds s w i x → ⊥
+
+abbrev pub is_free : Control → Bool
+is_free (Going l) = false
+is_free (Trapped line) = false
+is_free Free = true
+
+abbrev pub is_planned : Task → Bool
+is_planned (Scripted script budget) = false
+is_planned (Planned commands) = true
+
+-- there is one nexus for each that the scenario declares, and just the guests send what they like
+pub record ActFor (s : Scenario) (w : World) : Type 0 where
+  pub hosts : w.unit.registry.hosts ≡ length s.nexuses
+  pub tasks : map is_free w.controls ≡ map (λ n. is_planned n.task) s.nexuses
+
+-- ---- of a scenario as it is kept
+
+-- the auditor follows a history of the scenario
+abbrev pub IsAuditorOf : Parts → Auditor → Type 0
+IsAuditorOf p a = ActFor (scenario_of p) (world_at a [])
+
+-- it stands at the beginning of a history from this state
+abbrev pub StartsAt : Parts → UnitState → Auditor → Type 0
+StartsAt p u a = world_at a [] ≡ world_from (scenario_of p) u
+
+-- the item was tried after these, with this answer, which led from one auditor to the other
+abbrev pub IsTriedAfter : Parts → List Item → Item → Bool → Auditor → Auditor → Type 0
+IsTriedAfter p before i answer a b = IsTried (scenario_of p) (world_at a before) i answer (world_at b (before ++ i ∷ []))
+
+-- the line at which one that acts so is ready, and its command there
+abbrev pub IsNextOf : Control → ℕ × Command → Type 0
+IsNextOf k next = standing_of k ≡ Some (ready next.0 next.1)

@@ -1,0 +1,4 @@
+pub mod Auditors
+pub mod Audits
+pub mod Ends
+pub mod inside

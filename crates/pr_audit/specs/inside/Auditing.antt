@@ -1,0 +1,101 @@
+-- The items that may come next in an audit.
+use Rattle.std.specs.Prelude.{◌≡◌, ℕ, ◌≤◌, Bool, true, false, IsTrue, List, Some, Ok, length, map}
+use Rattle.pr_cdb.specs.declared.codes.TheConstants.{MOST_CDB_LENGTH, PARAMETER_LIST_LENGTH}
+use Rattle.pr_cdb.specs.declared.command.Command.{Command}
+use Rattle.pr_cdb.specs.declared.reply.Status.{Status}
+use Rattle.pr_cdb.specs.declared.reply.Status.TheVariants as status
+use Rattle.pr_cdb.specs.declared.wire.Request.{Request}
+use Rattle.pr_cdb.specs.declared.wire.Request.TheVariants.{Plain}
+use Rattle.pr_cdb.specs.Requests.{request_of_wire, AreBytes}
+use Rattle.pr_cdb.specs.Spelling.{spelling}
+use Rattle.pr_unit.specs.UnitStates.{UnitState}
+use Rattle.pr_unit.specs.Replies.{is_good}
+use Rattle.pr_script.specs.declared.limits.TheConstants.{MOST_OPEN}
+use Rattle.pr_script.specs.Depths.{depth_of_all}
+use Rattle.pr_script.specs.Scripts.{ready}
+use Rattle.pr_roles.specs.declared.limits.TheConstants.{MOST_PLANNED}
+use Rattle.pr_roles.specs.declared.parts.Parts.{Parts}
+use Rattle.pr_roles.specs.declared.role.Clause.{Clause}
+use Rattle.pr_roles.specs.declared.role.Role.{Role}
+use Rattle.pr_roles.specs.declared.entry.Entry.{Entry}
+use Rattle.pr_roles.specs.declared.item.Item.{Item}
+use Rattle.pr_roles.specs.declared.how.How.{How}
+use Rattle.pr_roles.specs.declared.how.How.TheVariants as how
+use Rattle.pr_roles.specs.Answers.{Answers}
+use Rattle.pr_roles.specs.Permits.{is_permitted}
+use Rattle.pr_roles.specs.Scenarios.{Scenario, Task, Scripted, Planned, scenario_of}
+use Rattle.pr_roles.specs.Worlds.{World, Event, Run, Control, Going, Trapped, Free, control_of, standing_of, control_after, world_from}
+use Rattle.pr_audit.specs.declared.sender.Sender.{Sender}
+use Rattle.pr_audit.specs.declared.sender.Sender.TheVariants as sender
+use Rattle.pr_audit.specs.Auditors.{control_by}
+
+-- how it was answered, which its status tells
+abbrev pub how_of : Status → How
+how_of status.Good = how.Plain
+how_of status.CheckCondition = how.Plain
+how_of status.Conflict = how.Plain
+how_of status.Busy = how.Busy
+how_of status.TaskFull = how.Full
+
+-- True: what its bytes ask for may be answered so, and then the unit is in this state. False: it may not, and nothing changes.
+abbrev pub IsAnswered : How → UnitState → Entry → Bool → UnitState → Type 0
+IsAnswered k u e true v = (q : Request) → request_of_wire e.wire ≡ Ok q → Answers k u e.host q e.reply v
+IsAnswered k u e false v = (v ≡ u) × ((q : Request) (w : UnitState) → request_of_wire e.wire ≡ Ok q → Answers k u e.host q e.reply w → ⊥)
+
+-- ---- one nexus
+
+-- the script and the plan are no longer than those that a text can have
+abbrev pub IsShort : Task → Type 0
+IsShort (Scripted script budget) = depth_of_all script ≤ MOST_OPEN
+IsShort (Planned commands) = length commands ≤ MOST_PLANNED
+
+-- the script's next command is spelled so, it may be answered so, and the script takes the reply
+pub record ScriptSends (k : How) (c : Control) (u : UnitState) (e : Entry) (after : Control) (v : UnitState) : Type 0 where
+  pub line : ℕ
+  pub command : Command
+  pub ready : standing_of c ≡ Some (ready line command)
+  pub wire : e.wire ≡ spelling command
+  pub answer : Answers k u e.host (Plain command) e.reply v
+  pub takes : after ≡ control_after line c e.reply
+
+-- the bytes are a request, it may be answered so, and where that is GOOD the role permits it
+pub record GuestSendsSo (k : How) (clauses : List Clause) (u : UnitState) (e : Entry) (v : UnitState) : Type 0 where
+  pub bytes : AreBytes e.wire.cdb.items × AreBytes e.wire.params.items
+  pub lengths : (length e.wire.cdb.items ≤ MOST_CDB_LENGTH) × (length e.wire.params.items ≤ PARAMETER_LIST_LENGTH)
+  pub request : Request
+  pub read : request_of_wire e.wire ≡ Ok request
+  pub answer : Answers k u e.host request e.reply v
+  pub permitted : is_good e.reply ≡ true → IsTrue (is_permitted clauses u.registry e.host request)
+
+-- The entry may come next, of one that acts so under this role. Then it acts otherwise, and the unit is in another state.
+abbrev pub MayCome : How → Control → List Clause → UnitState → Entry → Control → UnitState → Type 0
+MayCome k (Going l) clauses u e after v = ScriptSends k (Going l) u e after v
+MayCome k (Trapped line) clauses u e after v = ⊥
+MayCome k Free clauses u e after v = GuestSendsSo k clauses u e v × (after ≡ Free)
+
+-- True: it may come next, and this comes of it. False: it may not, whatever would come of it, and nothing changes.
+abbrev pub IsJudged : How → Control → List Clause → UnitState → Entry → Bool → Control → UnitState → Type 0
+IsJudged k c clauses u e true after v = MayCome k c clauses u e after v
+IsJudged k c clauses u e false after v =
+    (after ≡ c) × (v ≡ u) × ((other : Control) (w : UnitState) → MayCome k c clauses u e other w → ⊥)
+
+-- the same of a sender with this role, which becomes the other
+abbrev pub JudgesEntry : How → Role → Entry → Bool → Sender → UnitState → Sender → UnitState → Type 0
+JudgesEntry k role e answer x u y v = IsJudged k (control_by x) role.clauses.items u e answer (control_by y) v
+
+-- the same of a guest
+abbrev pub IsGuestJudged : How → List Clause → UnitState → Entry → Bool → UnitState → Type 0
+IsGuestJudged k clauses u e true v = GuestSendsSo k clauses u e v
+IsGuestJudged k clauses u e false v = (v ≡ u) × ((w : UnitState) → GuestSendsSo k clauses u e w → ⊥)
+
+-- ---- all of them
+
+-- each nexus of the scenario at its beginning
+abbrev pub AreFirstSenders : Parts → List Sender → Type 0
+AreFirstSenders p senders = map control_by senders ≡ map (λ n. control_of n.task) (scenario_of p).nexuses
+
+-- some run from this start has this history, and leads to this world
+pub record Reaches (s : Scenario) (u : UnitState) (history : List Item) (w : World) : Type 0 where
+  pub events : List Event
+  pub run : Run s (world_from s u) events w
+  pub items : w.history ≡ history

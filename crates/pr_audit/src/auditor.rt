@@ -1,0 +1,148 @@
+//! A scenario as a history of it is followed: its unit, and who may send what next.
+
+ghost use Rattle.std.specs.Prelude.{◌≡◌, ◌<◌, [], Some, length, IfSome, IfOk};
+ghost use Rattle.pr_roles.specs.Scenarios.{scenario_of};
+ghost use Rattle.pr_roles.specs.FirstStarts.{first_state};
+ghost use Rattle.pr_roles.specs.Worlds.{control};
+ghost use Rattle.pr_audit.specs.Auditors.{IsAuditorOf, IsNextOf, IsTriedAfter, StartsAt, world_at};
+ghost use Rattle.pr_audit.specs.Ends.{IsEndBy};
+ghost use Rattle.pr_audit.specs.inside.Auditing.{AreFirstSenders, how_of};
+
+use crate::end::End;
+use crate::refusing::may_come;
+use crate::resetting::may_reset;
+use crate::sender::Sender;
+use pr_cdb::{Command, Status};
+use pr_roles::{Entry, How, Item, Scenario, first_start};
+use pr_unit::Unit;
+use std::alloc::{AllocError, Global};
+
+/// A scenario as a history of it is followed, item by item, from some state of the unit.
+#[derive(Drop)]
+pub struct Auditor {
+    unit: Unit,
+    senders: Vec<Sender>,
+}
+
+impl Auditor {
+    /// The scenario at its first start.
+    pub(crate) fn begin(alloc: Global, scenario: &Scenario) -> Result<Auditor, AllocError>
+        ensures first { IfOk result (λ auditor. first_state (scenario_of scenario.now)
+            ≡ Some auditor.unit) }
+        ensures world { IfOk result (λ auditor. StartsAt scenario.now auditor.unit auditor) }
+        ensures acts { IfOk result (IsAuditorOf scenario.now) }
+    {
+        let start = first_start(scenario);
+        Auditor::from_start(alloc, scenario, start)
+    }
+
+    /// The scenario over this unit, with each script at its beginning. There is one nexus for each that the scenario declares.
+    pub fn from_start(
+        alloc: Global,
+        scenario: &Scenario,
+        start: Unit,
+    ) -> Result<Auditor, AllocError>
+        requires { start.registry.hosts ≡ length (scenario_of scenario.now).nexuses }
+        ensures unit { IfOk result (λ auditor. auditor.unit ≡ start) }
+        ensures world { IfOk result (StartsAt scenario.now start) }
+        ensures acts { IfOk result (IsAuditorOf scenario.now) }
+    {
+        Ok(Auditor {
+            unit: start,
+            senders: senders_of(alloc, scenario)?,
+        })
+    }
+
+    /// Whether the item may come next after these, and then goes past it.
+    pub fn admits(&mut self, scenario: &Scenario, before: &[Item], item: &Item) -> bool
+        requires { IsAuditorOf scenario.now self.old }
+        ensures tried { IsTriedAfter scenario.now before.now item.now result self.old self.new }
+        ensures acts { IsAuditorOf scenario.now self.new }
+    {
+        match item {
+            Item::Sent(entry) => self.admits_sent(scenario, before, entry),
+            Item::Reset => self.admits_reset(scenario, before),
+        }
+    }
+
+    /// The unit as it is after what was admitted.
+    pub fn unit(&self) -> &Unit
+        ensures { result.now ≡ (world_at self.now []).unit }
+    {
+        &self.unit
+    }
+
+    /// The line of the send at which the host's script is ready, with its command; none of a script that is stopped or trapped,
+    /// nor of a guest.
+    pub fn next_command(&self, host: u8) -> Option<(u32, Command)>
+        requires { host < length (world_at self.now []).controls }
+        ensures { IfSome result (IsNextOf (control (world_at self.now []) host)) }
+    {
+        self.senders[usize::from(host)].next_command()
+    }
+
+    /// How the nexus stands. A guest has not reached so many of its planned commands, whatever it has sent.
+    pub fn end(&self, host: u8, planned: u32) -> End
+        requires { host < length (world_at self.now []).controls }
+        ensures { IsEndBy (control (world_at self.now []) host) planned result }
+    {
+        self.senders[usize::from(host)].end(planned)
+    }
+
+    // The same of a command.
+    fn admits_sent(&mut self, scenario: &Scenario, before: &[Item], entry: &Entry) -> bool
+        requires { IsAuditorOf scenario.now self.old }
+        ensures tried { IsTriedAfter scenario.now before.now (Item.Sent entry.now) result self.old
+            self.new }
+        ensures acts { IsAuditorOf scenario.now self.new }
+    {
+        let index = usize::from(entry.host);
+        let nexuses = &scenario.parts().nexuses;
+        if index >= nexuses.len() {
+            return false;
+        }
+        let how = how_of(entry.reply.status);
+        if !may_come(scenario, before, entry.host, how) {
+            return false;
+        }
+        let role = &nexuses[index].role;
+        self.senders[index].sends(&mut self.unit, role, entry, how)
+    }
+
+    // The same of a reset.
+    fn admits_reset(&mut self, scenario: &Scenario, before: &[Item]) -> bool
+        requires { IsAuditorOf scenario.now self.old }
+        ensures tried { IsTriedAfter scenario.now before.now Item.Reset result self.old self.new }
+        ensures acts { IsAuditorOf scenario.now self.new }
+    {
+        let may = may_reset(scenario, before);
+        if may {
+            self.unit.reset();
+        }
+        may
+    }
+}
+
+// How a command was answered, which the status tells.
+fn how_of(status: Status) -> How
+    ensures { result ≡ how_of status }
+{
+    match status {
+        Status::Good | Status::CheckCondition | Status::Conflict => How::Plain,
+        Status::Busy => How::Busy,
+        Status::TaskFull => How::Full,
+    }
+}
+
+// Each host and guest at its beginning.
+#[tactic(auto, unfolding(pr_roles::specs::Scenarios::scenario_of))]
+fn senders_of(alloc: Global, scenario: &Scenario) -> Result<Vec<Sender>, AllocError>
+    ensures { IfOk result (λ senders. AreFirstSenders scenario.now senders.items) }
+{
+    let nexuses = &scenario.parts().nexuses;
+    let mut senders = Vec::with_capacity(alloc, nexuses.len())?;
+    for nexus in nexuses {
+        senders.push(Sender::new(alloc, nexus)?)?;
+    }
+    Ok(senders)
+}

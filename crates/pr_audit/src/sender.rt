@@ -1,0 +1,146 @@
+//! The nexuses of an audit.
+
+ghost use Rattle.std.specs.Prelude.{◌≡◌, ◌<◌, IfOk, IfSome};
+ghost use Rattle.pr_cdb.specs.Requests.{AreBytes};
+ghost use Rattle.pr_roles.specs.Permits.{is_permitted};
+ghost use Rattle.pr_roles.specs.Scenarios.{task_of};
+ghost use Rattle.pr_roles.specs.Worlds.{control_of};
+ghost use Rattle.pr_audit.specs.Auditors.{IsNextOf, control_by};
+ghost use Rattle.pr_audit.specs.Ends.{IsEndBy};
+ghost use Rattle.pr_audit.specs.inside.Auditing.{IsAnswered, IsGuestJudged, JudgesEntry};
+ghost use Rattle.pr_audit.specs.inside.Auditing.{IsShort};
+
+use crate::end::End;
+use crate::refusing::refused;
+use pr_cdb::{Command, Request, Status, decode, encode};
+use pr_roles::{Entry, How, Nexus, Role, Task, permits};
+use pr_script::{Machine, Next};
+use pr_unit::Unit;
+use std::alloc::{AllocError, Global};
+
+/// A nexus of an audit. Of a guest's plan an audit knows nothing.
+#[derive(Drop)]
+pub(crate) enum Sender {
+    /// The host's script goes on.
+    Host(Machine),
+
+    /// The host's script met a reply without an arm, at the send of this line.
+    Trapped(u32),
+
+    Guest,
+}
+
+impl Sender {
+    /// The nexus at its beginning.
+    pub(crate) fn new(alloc: Global, nexus: &Nexus) -> Result<Sender, AllocError>
+        requires { IsShort (task_of nexus.now.task) }
+        ensures { IfOk result (λ sender. control_by sender ≡ control_of (task_of nexus.now.task)) }
+    {
+        match &nexus.task {
+            Task::Scripted { script, .. } => Ok(Sender::Host(Machine::new(alloc, script)?)),
+            Task::Planned(_) => Ok(Sender::Guest),
+        }
+    }
+
+    /// The line of the send at which the host's script is ready, with its command.
+    pub(crate) fn next_command(&self) -> Option<(u32, Command)>
+        ensures { IfSome result (IsNextOf (control_by self.now)) }
+    {
+        match self {
+            Sender::Host(machine) => match machine.next() {
+                Next::Send { line, command } => Some((line, command)),
+                Next::Stopped(_) => None,
+            },
+            Sender::Trapped(_) | Sender::Guest => None,
+        }
+    }
+
+    /// How it stands. A guest has not reached so many of its planned commands.
+    pub(crate) fn end(&self, planned: u32) -> End
+        ensures { IsEndBy (control_by self.now) planned result }
+    {
+        match self {
+            Sender::Host(machine) => match machine.next() {
+                Next::Send { line, .. } => End::Ready(line),
+                Next::Stopped(word) => End::Stopped(word),
+            },
+            Sender::Trapped(line) => End::Trapped(*line),
+            Sender::Guest => End::Left(planned),
+        }
+    }
+
+    /// Whether it may have sent this entry, and may have been answered so. Where it may, it goes past the entry, as the unit
+    /// does; else nothing changes.
+    pub(crate) fn sends(&mut self, unit: &mut Unit, role: &Role, entry: &Entry, how: How) -> bool
+        requires { entry.now.host < unit.old.registry.hosts }
+        ensures judged { JudgesEntry how role.now entry.now result self.old unit.old self.new
+            unit.new }
+    {
+        match self {
+            Sender::Host(machine) => {
+                let (line, command) = match machine.next() {
+                    Next::Send { line, command } => (line, command),
+                    Next::Stopped(_) => return false,
+                };
+                if entry.wire != encode(&command) {
+                    return false;
+                }
+                if !is_answered(unit, entry, how) {
+                    return false;
+                }
+                if machine.take(&entry.reply).is_err() {
+                    *self = Sender::Trapped(line);
+                }
+                true
+            }
+            Sender::Trapped(_) => false,
+            Sender::Guest => guest_sends(unit, role, entry, how),
+        }
+    }
+}
+
+// Whether a guest with this role may have sent the entry, and may have been answered so.
+fn guest_sends(unit: &mut Unit, role: &Role, entry: &Entry, how: How) -> bool
+    requires { entry.now.host < unit.old.registry.hosts }
+    ensures { IsGuestJudged how role.now.clauses.items unit.old entry.now result unit.new }
+{
+    let cdb = entry.wire.cdb.as_slice();
+    let params = entry.wire.params.as_slice();
+    are_bytes(cdb);
+    are_bytes(params);
+    let Ok(request) = decode(cdb, params) else {
+        return false;
+    };
+    if entry.reply.status == Status::Good && !is_permitted(role, unit, entry.host, request) {
+        return false;
+    }
+    is_answered(unit, entry, how)
+}
+
+// Whether the command may have been answered so: by the unit, or by a whole refusal.
+fn is_answered(unit: &mut Unit, entry: &Entry, how: How) -> bool
+    requires { entry.now.host < unit.old.registry.hosts }
+    ensures { IsAnswered how unit.old entry.now result unit.new }
+{
+    match how {
+        How::Plain => unit.follow(entry.host, &entry.wire, &entry.reply),
+        How::Busy => entry.reply == refused(Status::Busy),
+        How::Full => entry.reply == refused(Status::TaskFull),
+    }
+}
+
+// Whether the role permits the request to end GOOD.
+fn is_permitted(role: &Role, unit: &Unit, host: u8, request: Request) -> bool
+    requires { host < unit.now.registry.hosts }
+    ensures { result ≡ is_permitted role.now.clauses.items unit.now.registry host request }
+{
+    match request {
+        Request::Plain(command) => permits(role, unit, host, &command),
+        Request::Faulty(_) => false,
+    }
+}
+
+// That each is a byte, which a proof has from the type of the slice.
+fn are_bytes(bytes: &[u8])
+    ensures { AreBytes bytes.now }
+{}

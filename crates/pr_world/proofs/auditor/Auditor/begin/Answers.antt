@@ -1,4 +1,0 @@
-use Rattle.pr_world.proofs.auditor.Auditor.begin.Goals as goal
-
-pub from_start-requires : goal.from_start-requires
-from_start-requires c = c.first_start-start.ensures.allowed.hosts

@@ -1,6 +1,0 @@
-use Rattle.pr_world.proofs.lemmas.Courses.Starts.{short_at}
-use Rattle.pr_world.proofs.auditor.senders_of.Goals as goal
-
-pub new-requires : goal.new-requires
-new-requires c =
-    short_at _ _ _ _ _ c.parts.ensures.fits c.parts.ensures.value c.deref-nexus-items.ensures.value c.loop-nexus-test.true c.nexus-item.is
