@@ -2,20 +2,18 @@
 //! with a trace of the commands and replies, and audits such traces, its own or another target's.
 #![tactic(auto)]
 
-mod command_line;
 mod explaining;
 mod several;
 mod source;
 mod told;
 mod traced;
 
-use crate::command_line::matches_of;
 use crate::explaining::do_explain;
 use crate::several::{Line, put_labelled, worse};
 use crate::source::{Source, apart, open, open_file};
 use crate::traced::do_explain_trace;
-use clap::ArgMatches;
 use clap::error::ErrorKind;
+use command_line::{Call, call_of, matches_of};
 use pr_commands::{
     ExitStatus, Fault, args_fault, do_audit, do_check, do_outline, do_replay, do_run, do_witness,
     ended,
@@ -44,9 +42,13 @@ fn run_words<T: Threads + Wait + Sync>(rt: &HostRuntime, threads: &T) -> Result<
         Ok(words) => words,
         Err(error) => return Err(args_fault(&error)),
     };
-    match matches_of(rt.alloc(), &words) {
-        Ok(matches) => run_matches(rt, threads, &matches),
-        Err(error) => refuse(rt, &error),
+    let matches = match matches_of(rt.alloc(), &words) {
+        Ok(matches) => matches,
+        Err(error) => return refuse(rt, &error),
+    };
+    match call_of(&matches) {
+        Some(call) => run_call(rt, threads, call),
+        None => Err(Fault::Usage),
     }
 }
 
@@ -59,49 +61,26 @@ fn words(rt: &HostRuntime) -> io::Result<Vec<String>> {
     Ok(words)
 }
 
-fn run_matches<T: Threads + Wait + Sync>(
+fn run_call<T: Threads + Wait + Sync>(
     rt: &HostRuntime,
     threads: &T,
-    matches: &ArgMatches<'_>,
+    call: Call<'_>,
 ) -> Result<ExitStatus, Fault> {
-    match matches.subcommand() {
-        Some(("check", arguments)) => run_check(rt, arguments),
-        Some(("outline", arguments)) => run_outline(rt, arguments),
-        Some(("witness", arguments)) => run_witness(rt, arguments),
-        Some(("replay", arguments)) => run_replay(rt, arguments),
-        Some(("run", arguments)) => run_threads(rt, threads, arguments),
-        Some(("audit", arguments)) => run_audit(rt, arguments),
-        Some(("explain", arguments)) => run_explain(rt, arguments),
-        _ => Err(Fault::Usage),
+    match call {
+        Call::Check { paths } => Ok(check(rt, paths)),
+        Call::Outline { path } => outline(rt, path),
+        Call::Witness { path } => witness(rt, path),
+        Call::Replay { path, steps } => replay(rt, path, steps),
+        Call::Run { path } => run_threads(rt, threads, path),
+        Call::Audit { path, trace } => audit(rt, path, trace),
+        Call::Explain { path, trace } => explain(rt, path, trace),
     }
 }
 
-// The word for this argument of a command.
-fn word<'a>(arguments: &'a ArgMatches<'_>, name: &str) -> Result<&'a str, Fault> {
-    match arguments.get_str(name) {
-        Some(word) => Ok(word),
-        None => Err(Fault::Usage),
-    }
-}
-
-// The words for this one, which may be repeated.
-fn word_list<'a>(arguments: &'a ArgMatches<'_>, name: &str) -> Result<&'a [&'a str], Fault> {
-    match arguments.get_strs(name) {
-        Some(words) => Ok(words),
-        None => Err(Fault::Usage),
-    }
-}
-
-// The text that each command begins with; `-` is standard input.
-fn scenario(rt: &HostRuntime, arguments: &ArgMatches<'_>) -> Result<Source, Fault> {
-    open(rt, word(arguments, "FILE")?)
-}
-
-// `fence check FILE`, or `fence check FILE FILE ..`.
-fn run_check(rt: &HostRuntime, arguments: &ArgMatches<'_>) -> Result<ExitStatus, Fault> {
-    match word_list(arguments, "FILE")? {
-        [path] => Ok(check_path(rt, path, &mut rt.stdout(), &mut rt.stderr())),
-        paths => Ok(check_paths(rt, paths)),
+fn check(rt: &HostRuntime, paths: &[&str]) -> ExitStatus {
+    match paths {
+        [path] => check_path(rt, path, &mut rt.stdout(), &mut rt.stderr()),
+        _ => check_paths(rt, paths),
     }
 }
 
@@ -133,22 +112,18 @@ fn check_paths(rt: &HostRuntime, paths: &[&str]) -> ExitStatus {
     worst
 }
 
-// `fence outline FILE`.
-fn run_outline(rt: &HostRuntime, arguments: &ArgMatches<'_>) -> Result<ExitStatus, Fault> {
-    let mut text = scenario(rt, arguments)?;
+fn outline(rt: &HostRuntime, path: &str) -> Result<ExitStatus, Fault> {
+    let mut text = open(rt, path)?;
     Ok(do_outline(rt.alloc(), &mut text, &mut rt.stdout(), &mut rt.stderr()))
 }
 
-// `fence witness FILE`.
-fn run_witness(rt: &HostRuntime, arguments: &ArgMatches<'_>) -> Result<ExitStatus, Fault> {
-    let mut text = scenario(rt, arguments)?;
+fn witness(rt: &HostRuntime, path: &str) -> Result<ExitStatus, Fault> {
+    let mut text = open(rt, path)?;
     Ok(do_witness(rt.alloc(), &mut text, &mut rt.stdout(), &mut rt.stderr()))
 }
 
-// `fence replay FILE STEP..`.
-fn run_replay(rt: &HostRuntime, arguments: &ArgMatches<'_>) -> Result<ExitStatus, Fault> {
-    let steps = word_list(arguments, "STEP")?;
-    let mut text = scenario(rt, arguments)?;
+fn replay(rt: &HostRuntime, path: &str, steps: &[&str]) -> Result<ExitStatus, Fault> {
+    let mut text = open(rt, path)?;
     Ok(do_replay(
         rt.alloc(),
         steps,
@@ -158,13 +133,12 @@ fn run_replay(rt: &HostRuntime, arguments: &ArgMatches<'_>) -> Result<ExitStatus
     ))
 }
 
-// `fence run FILE`.
 fn run_threads<T: Threads + Wait + Sync>(
     rt: &HostRuntime,
     threads: &T,
-    arguments: &ArgMatches<'_>,
+    path: &str,
 ) -> Result<ExitStatus, Fault> {
-    let mut text = scenario(rt, arguments)?;
+    let mut text = open(rt, path)?;
     Ok(do_run(
         threads,
         rt.alloc(),
@@ -174,11 +148,10 @@ fn run_threads<T: Threads + Wait + Sync>(
     ))
 }
 
-// `fence audit FILE TRACE`, where `-` is standard input for the first alone. Both are opened before either is read.
-fn run_audit(rt: &HostRuntime, arguments: &ArgMatches<'_>) -> Result<ExitStatus, Fault> {
-    let path = word(arguments, "TRACE")?;
-    let mut text = scenario(rt, arguments)?;
-    let mut trace = open_file(rt, path)?;
+// `-` is standard input for the first alone. Both are opened before either is read.
+fn audit(rt: &HostRuntime, path: &str, trace: &str) -> Result<ExitStatus, Fault> {
+    let mut text = open(rt, path)?;
+    let mut trace = open_file(rt, trace)?;
     apart(&text, &trace)?;
     Ok(do_audit(
         rt.alloc(),
@@ -189,10 +162,9 @@ fn run_audit(rt: &HostRuntime, arguments: &ArgMatches<'_>) -> Result<ExitStatus,
     ))
 }
 
-// `fence explain FILE`, or `fence explain FILE TRACE`.
-fn run_explain(rt: &HostRuntime, arguments: &ArgMatches<'_>) -> Result<ExitStatus, Fault> {
-    let mut text = scenario(rt, arguments)?;
-    match arguments.get_str("TRACE") {
+fn explain(rt: &HostRuntime, path: &str, trace: Option<&str>) -> Result<ExitStatus, Fault> {
+    let mut text = open(rt, path)?;
+    match trace {
         Some(trace) => explain_trace(rt, &mut text, trace),
         None => Ok(do_explain(rt.alloc(), &mut text, &mut rt.stdout(), &mut rt.stderr())),
     }

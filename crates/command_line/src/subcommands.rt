@@ -1,4 +1,4 @@
-//! The command line of the program.
+//! The subcommands of the program, with the help for each.
 
 use clap::{Arg, ArgAction, ArgMatches, Command, Error};
 use std::alloc::{AllocError, Global};
@@ -41,29 +41,20 @@ fn command<'a>(alloc: Global) -> Result<Command<'a>, AllocError> {
         .after_help(STATUSES)
         .subcommand_required(true)
         .arg_required_else_help(true);
-    let command = with_verdicts(alloc, command)?;
-    let command = with_runs(alloc, command)?;
-    with_readings(alloc, command)
+    let command = with(command, check(alloc))?;
+    let command = with(command, outline(alloc))?;
+    let command = with(command, witness(alloc))?;
+    let command = with(command, replay(alloc))?;
+    let command = with(command, run(alloc))?;
+    let command = with(command, audit(alloc))?;
+    with(command, explain(alloc))
 }
 
-// What is said of every run.
-fn with_verdicts<'a>(alloc: Global, command: Command<'a>) -> Result<Command<'a>, AllocError> {
-    command
-        .subcommand(check(alloc)?)?
-        .subcommand(outline(alloc)?)?
-        .subcommand(witness(alloc)?)
-}
-
-// What runs the scripts, and writes a trace.
-fn with_runs<'a>(alloc: Global, command: Command<'a>) -> Result<Command<'a>, AllocError> {
-    command.subcommand(replay(alloc)?)?.subcommand(run(alloc)?)
-}
-
-// What is said of a trace, and in words.
-fn with_readings<'a>(alloc: Global, command: Command<'a>) -> Result<Command<'a>, AllocError> {
-    command
-        .subcommand(audit(alloc)?)?
-        .subcommand(explain(alloc)?)
+fn with<'a>(
+    command: Command<'a>,
+    subcommand: Result<Command<'a>, AllocError>,
+) -> Result<Command<'a>, AllocError> {
+    command.subcommand(subcommand?)
 }
 
 fn check<'a>(alloc: Global) -> Result<Command<'a>, AllocError> {

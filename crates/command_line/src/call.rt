@@ -1,0 +1,78 @@
+//! What the words of a command line ask for.
+
+use clap::ArgMatches;
+
+/// A subcommand with the paths and words behind it. The path of a scenario is `-` where that is standard input.
+#[derive(Clone, Copy)]
+pub enum Call<'a> {
+    /// The verdict on each of these scenarios.
+    Check {
+        paths: &'a [&'a str],
+    },
+
+    /// What can be known of the unit at each send of the scripts.
+    Outline {
+        path: &'a str,
+    },
+
+    /// A run that shows why the scripts are refused.
+    Witness {
+        path: &'a str,
+    },
+
+    /// The trace of these turns, each named by its nexus, or in version 2 another step.
+    Replay {
+        path: &'a str,
+        steps: &'a [&'a str],
+    },
+
+    /// The trace of a run with a thread for each host and guest.
+    Run {
+        path: &'a str,
+    },
+
+    /// Whether what this trace says may have happened.
+    Audit {
+        path: &'a str,
+        trace: &'a str,
+    },
+
+    /// In words for people what the verdict means, or what happens in this trace.
+    Explain {
+        path: &'a str,
+        trace: Option<&'a str>,
+    },
+}
+
+/// What is asked for by words that `matches_of` took, or nothing where they name no subcommand or lack an argument, which it refuses.
+pub fn call_of<'a>(matches: &'a ArgMatches<'_>) -> Option<Call<'a>> {
+    let (name, arguments) = matches.subcommand()?;
+    let call = match name {
+        "check" => Call::Check {
+            paths: arguments.get_strs("FILE")?,
+        },
+        "outline" => Call::Outline {
+            path: arguments.get_str("FILE")?,
+        },
+        "witness" => Call::Witness {
+            path: arguments.get_str("FILE")?,
+        },
+        "replay" => Call::Replay {
+            path: arguments.get_str("FILE")?,
+            steps: arguments.get_strs("STEP")?,
+        },
+        "run" => Call::Run {
+            path: arguments.get_str("FILE")?,
+        },
+        "audit" => Call::Audit {
+            path: arguments.get_str("FILE")?,
+            trace: arguments.get_str("TRACE")?,
+        },
+        "explain" => Call::Explain {
+            path: arguments.get_str("FILE")?,
+            trace: arguments.get_str("TRACE"),
+        },
+        _ => return None,
+    };
+    Some(call)
+}
