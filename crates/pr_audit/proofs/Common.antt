@@ -26,6 +26,5 @@ pub use Rattle.pr_roles.specs.declared.item.Item.{Item}
 pub use Rattle.pr_roles.specs.declared.item.Item.TheVariants.{Sent, Reset}
 pub use Rattle.pr_roles.specs.declared.parts.Parts.{Parts}
 pub use Rattle.pr_roles.specs.declared.role.Clause.{Clause}
-pub use Rattle.pr_audit.specs.Auditors.{control_by, Adds, IsTried, is_free, ActFor}
-pub use Rattle.pr_audit.specs.Auditors.{is_planned}
+pub use Rattle.pr_audit.specs.Auditors.{control_by, Adds, IsTried, is_free, ActFor, is_planned}
 pub use Rattle.pr_audit.specs.inside.Auditing.{IsJudged, Reaches}

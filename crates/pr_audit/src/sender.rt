@@ -7,8 +7,7 @@ ghost use Rattle.pr_roles.specs.Scenarios.{task_of};
 ghost use Rattle.pr_roles.specs.Worlds.{control_of};
 ghost use Rattle.pr_audit.specs.Auditors.{IsNextOf, control_by};
 ghost use Rattle.pr_audit.specs.Ends.{IsEndBy};
-ghost use Rattle.pr_audit.specs.inside.Auditing.{IsAnswered, IsGuestJudged, JudgesEntry};
-ghost use Rattle.pr_audit.specs.inside.Auditing.{IsShort};
+ghost use Rattle.pr_audit.specs.inside.Auditing.{IsAnswered, IsGuestJudged, JudgesEntry, IsShort};
 
 use crate::end::End;
 use crate::refusing::refused;

@@ -29,9 +29,8 @@ pub use Rattle.pr_roles.specs.declared.item.Item.TheVariants.{Sent, Reset}
 pub use Rattle.pr_roles.specs.declared.parts.Parts.{Parts}
 pub use Rattle.pr_roles.specs.declared.role.Clause.{Clause}
 pub use Rattle.pr_roles.specs.declared.step.Step.{Step}
-pub use Rattle.pr_audit.specs.Auditors.{is_free}
+pub use Rattle.pr_audit.specs.Auditors.{is_free, is_planned}
 pub use Rattle.pr_world.specs.Courses.{IsReached}
-pub use Rattle.pr_audit.specs.Auditors.{is_planned}
 pub use Rattle.pr_audit.specs.Ends.{ending_of, ending}
 pub use Rattle.pr_world.specs.declared.course.Course.{Course}
 pub use Rattle.pr_world.specs.declared.participant.Participant.{Participant}

@@ -22,8 +22,7 @@ use Rattle.pr_roles.specs.Schedules.{plan_of}
 use Rattle.pr_roles.specs.Starts.{IsAllowedStart}
 use Rattle.pr_roles.specs.Worlds.{World, Event, Host, Guest, UnitReset, Happens, HostSends, commands_by, control, entry_of, standing_of, world_from}
 use Rattle.pr_audit.specs.declared.auditor.Auditor.{Auditor}
-use Rattle.pr_audit.specs.Auditors.{Adds, ActFor, IsTried, is_free, world_at}
-use Rattle.pr_audit.specs.Auditors.{is_planned}
+use Rattle.pr_audit.specs.Auditors.{Adds, ActFor, IsTried, is_free, world_at, is_planned}
 use Rattle.pr_audit.specs.Ends.{ending_of, endings}
 use Rattle.pr_regions.proofs.lemmas.Showing.ScenarioParts.{count_of_parts}
 use Rattle.pr_audit.proofs.lemmas.Auditors.Additions.{guests_free, same_entry, same_item}

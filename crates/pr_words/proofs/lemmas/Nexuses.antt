@@ -3,8 +3,7 @@ use Rattle.std.specs.Prelude.{map}
 use Rattle.std.proofs.lemmas.List.{length-map}
 use Rattle.pr_roles.specs.Scenarios.{Scenario}
 use Rattle.pr_roles.specs.Worlds.{World}
-use Rattle.pr_audit.specs.Auditors.{ActFor, is_free}
-use Rattle.pr_audit.specs.Auditors.{is_planned}
+use Rattle.pr_audit.specs.Auditors.{ActFor, is_free, is_planned}
 
 -- there is a script or a guest for each that the scenario declares
 pub control_there : (s : Scenario) (w : World) (h : ℕ) → ActFor s w → h < length s.nexuses → h < length w.controls
