@@ -96,18 +96,17 @@ fn check_path<W: Write, E: Write>(
     }
 }
 
-// Each line behind its path, and the worst status.
+// Each line behind its path, and the worst status. Where one can't be written, none behind it could be, so that is the end.
 fn check_paths(rt: &HostRuntime, paths: &[&str]) -> ExitStatus {
     let mut worst = ExitStatus::Done;
     for path in paths {
         let mut written = Line::new();
         let mut told = Line::new();
-        let status = check_path(rt, path, &mut written, &mut told);
+        worst = worse(worst, check_path(rt, path, &mut written, &mut told));
         let (mut output, mut errors) = (rt.stdout(), rt.stderr());
-        worst = worse(
-            worst,
-            put_labelled(&mut output, &mut errors, path, &written, &told, status),
-        );
+        if let Err(fault) = put_labelled(&mut output, &mut errors, path, &written, &told) {
+            return worse(worst, ended(&mut errors, Err(fault)));
+        }
     }
     worst
 }

@@ -1,31 +1,25 @@
 //! Several scenarios in one command: each line that one of them writes or tells has the path of its text before it.
 
 use arrayvec::ArrayVec;
-use pr_commands::{ExitStatus, Fault, tell};
+use pr_commands::{ExitStatus, Fault};
 use pr_output::{WriteFault, put};
 use std::io::Write;
 
 /// The line of a verdict or of a fault, which has at most three names or numbers.
 pub type Line = ArrayVec<u8, 256>;
 
-/// Writes and tells what a command wrote and told of the text at this path, behind the path. The status is that of the command,
-/// or of what can't be written.
+/// Writes and tells what a command wrote and told of the text at this path, behind the path. What can't be written is a fault, for
+/// the caller to tell.
 pub fn put_labelled<W: Write, E: Write>(
     writer: &mut W,
     errors: &mut E,
     path: &str,
     written: &Line,
     told: &Line,
-    status: ExitStatus,
-) -> ExitStatus {
+) -> Result<(), Fault> {
     let _ = put_behind(errors, path, told);
-    match put_behind(writer, path, written) {
-        Ok(()) => status,
-        Err(WriteFault) => {
-            tell(errors, &Fault::Output);
-            worse(status, ExitStatus::Fault)
-        }
-    }
+    put_behind(writer, path, written)?;
+    Ok(())
 }
 
 // The line behind the path, if there is one.
