@@ -94,8 +94,9 @@ function shortened(params, sensed,    flags) {
 # REPORT CAPABILITIES ended GOOD and says something else than our disk does. It changes nothing, so nothing is lost without it.
 function is_other_disk(cdb, data) { return bytes(cdb, 0, 1) == "5e" && byte(cdb, 1) % 32 == 2 && data != "" && data != bytes("00080080ea010000", 0, length(data) / 2) }
 
-# Keeps a command with its answer as the entry at this place of the trace, or leaves it out. A list that is empty is "".
-function entry(place, name, cdb, params, status, sensed, data,    code) {
+# Keeps a command with its answer as the entry at this place of the trace, or leaves it out. A list that is empty is "". Where the
+# sending has a place of its own, it is told for order.awk.
+function entry(place, name, cdb, params, status, sensed, data, sent,    code) {
     code = bytes(cdb, 0, 1)
     if (length(data) > (version == 2 ? 272 : 144)) { leave("data of " length(data) / 2 " bytes, and a trace of version " version " takes " (version == 2 ? 136 : 72)); return }
     if (is_other_disk(cdb, data)) { leave("REPORT CAPABILITIES says something else than our disk, as many disks do"); return }
@@ -105,18 +106,23 @@ function entry(place, name, cdb, params, status, sensed, data,    code) {
     }
     if (code == "5f") params = shortened(params, sensed)
     line_at[place] = name " " cdb " " or_dash(params) " " status " " or_dash(sensed) " " or_dash(data)
+    name_at[place] = name; cdb_at[place] = cdb; params_at[place] = params; status_at[place] = status; sensed_at[place] = sensed
+    data_at[place] = data; sent_at[place] = sent; where_at[place] = here
     if (place > last_place) last_place = place
     kept++
 }
 # Writes the trace, when all is read. One without an entry would say nothing of the disk, so none is written then.
-function finish(    at, count) {
+function finish(    at, count, lines, it, many) {
     if (left > 0) tell("left out in all: " left)
     if (reset && kept > 0) tell("the trace begins with a reset (RESET=1): its scenario needs `fence 2` and `resets 1`")
     tell_notes()
     if (kept == 0) { tell("no command is here that a trace has: no trace is written"); ends(1) }
     print "fence-trace " version
     if (reset) print ++count, "reset"
-    for (at = 1; at <= last_place; at++) if (at in line_at) print ++count, line_at[at]
+    for (at = 1; at <= last_place; at++) {
+        many = split(line_at[at], lines, "\n")
+        for (it = 1; it <= many; it++) print ++count, lines[it]
+    }
     if (incomplete) ends(1)
 }
 

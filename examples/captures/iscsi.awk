@@ -23,18 +23,20 @@ function answered(key, status, sensed,    cdb, code, data) {
     else {
         if (code == "03" && data != "") data = sense(data)
         if (status == "02" && sensed == "") stop("CHECK CONDITION without a sense")
-        entry(++place, name_of[stream], cdb, out_of[key], status, status == "02" ? sense(sensed) : "", data)
+        entry(place, name_of[stream], cdb, out_of[key], status, status == "02" ? sense(sensed) : "", data, sent_of[key])
     }
     forget(key)
 }
 function forget(key) {
     delete cdb_of[key]
+    delete sent_of[key]
     delete out_of[key]
     delete in_of[key]
 }
 
 # One whole unit of the protocol: 48 bytes of header, and its data.
 function unit(head, data,    code, key, tag) {
+    place++
     code = byte(head, 0) % 64
     tag = bytes(head, 16, 4)
     key = stream " " tag
@@ -55,10 +57,10 @@ function unit(head, data,    code, key, tag) {
         cdb_of[key] = bytes(head, 32, 16)
         lun_of[key] = byte(head, 8) % 64 * 256 + byte(head, 9)
         frame_of[key] = $1
+        sent_of[key] = place
         is_out[key] = bytes(head, 32, 1) == "5f"
         out_of[key] = is_out[key] ? data : ""
         in_of[key] = ""
-        for (other in cdb_of) if (other != key) tell("frame " $1 ": two commands are under way: their order is that of their answers")
     } else if (code == 2) leave("task management function " byte(head, 1) % 128 (byte(head, 1) % 128 >= 5 ? ", a reset" : ""))
     else if (code == 50) leave("an asynchronous message of the target")
     else if (code == 5 && key in cdb_of) { if (is_out[key]) out_of[key] = out_of[key] data }
@@ -98,5 +100,6 @@ $4 !~ /^[0-9a-f]*$/ || length($4) % 2 == 1 { stop("not a frame, a stream, a port
 END {
     for (way in held) if (held[way] != "") tell("stream " way " the target: cut off within a unit")
     for (key in cdb_of) left_out("frame " frame_of[key], "not answered")
+    arrange()
     finish()
 }
