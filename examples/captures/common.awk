@@ -18,25 +18,33 @@ function is_name(word) { return word ~ /^[a-z][a-z0-9-]*$/ && length(word) <= 16
 
 function tell(what) { print what > "/dev/stderr" }
 function ends(status) { failed = status; exit status }
-# The input can't be read from here on.
-function stop(why) { tell("line " NR ": " why); ends(1) }
+# The input can't be read from here on. (A filter that reads ahead says which line it is at.)
+function stop(why) { tell("line " (line > 0 ? line : NR) ": " why); ends(1) }
 # The filter was called wrongly.
 function refuse(form, word) { tell(form " is wanted, and not " word); ends(2) }
 function left_out(where, why) { tell(where ": left out: " why); left++ }
 function leave(why) { left_out(here, why) }
 # Tells something once when all is read: where it came first, and how often it came again.
-function note(where, what) {
+function note(where, what, times) {
     if (!(what in noted)) { note_of[++notes] = what; first_of[what] = where }
-    noted[what]++
+    noted[what] += times == "" ? 1 : times
 }
-# The same of what may have changed the unit and is missing in the trace: the filter will end with status 1.
-function lose(where, what) { note(where, what); incomplete = 1 }
-function tell_notes(    at, what, others) {
+# Leaves out what may come thousands of times.
+function leave_many(why) { note(here, "left out: " why); left++ }
+# Notes what may have changed the unit, or what was told to somebody, and is missing in the trace: the filter will end with status 1.
+function lose(where, what, times) { note(where, what, times); is_loss[what] = 1; losses++ }
+function tell_notes(losses_too,    at, what, others) {
     for (at = 1; at <= notes; at++) {
         what = note_of[at]
         others = noted[what] - 1
-        tell(first_of[what] (others > 1 ? " and " others " others" : others == 1 ? " and one other" : "") ": " what)
+        if ((what in is_loss) == losses_too) tell(first_of[what] (others > 1 ? " and " others " others" : others == 1 ? " and one other" : "") ": " what)
     }
+}
+# Leaves out a command that a trace does not have. It may have changed the unit all the same, or been told an attention.
+function leave_code(code, name, status, sensed) {
+    leave_many("operation code " code "h" (name == "" ? "" : " of " name) (code == "88" || code == "8a" ? ": BLOCKS=fold takes it in" : ""))
+    if (status == "02" && is_attention(sensed)) lose(here, "an attention was told to a command that a trace does not have")
+    if (status == "00" && index(" 16 17 56 57 ", " " code " ") > 0) lose(here, "a RESERVE or RELEASE of SPC-2 is missing in the trace")
 }
 
 # How many bytes a command descriptor block with this operation code has.
@@ -58,8 +66,9 @@ function sense(list, whose,    code, key, rest) {
 }
 # The sense with this key, one digit, and this code with its qualifier, four digits.
 function sense_of(key, rest) { return "70000" key "000000000a00000000" rest "00000000" }
-# The sense says that the command is at fault.
+# A sense in 18 bytes that says: the command is at fault; an attention.
 function is_fault(sensed) { return substr(sensed, 6, 1) == "5" }
+function is_attention(sensed) { return substr(sensed, 6, 1) == "6" }
 
 # A READ or WRITE as our disk takes it: BLOCKS=fold. Nothing where it has too many blocks.
 function folded(cdb, sensed,    code, block, count, short) {
@@ -100,6 +109,8 @@ function entry(place, name, cdb, params, status, sensed, data, sent,    code) {
     code = bytes(cdb, 0, 1)
     if (length(data) > (version == 2 ? 272 : 144)) { leave("data of " length(data) / 2 " bytes, and a trace of version " version " takes " (version == 2 ? 136 : 72)); return }
     if (is_other_disk(cdb, data)) { leave("REPORT CAPABILITIES says something else than our disk, as many disks do"); return }
+    if (blocks != "fold" && (code == "28" || code == "2a") && number(bytes(cdb, 2, 4)) + number(bytes(cdb, 7, 2)) > 1048576 && sensed != sense_of("5", "2100"))
+        note(here, "a READ or WRITE has blocks that our disk does not have: BLOCKS=fold takes them modulo its 1,048,576")
     if (blocks == "fold" && (code == "28" || code == "2a" || is_long(code))) {
         cdb = folded(cdb, sensed)
         if (cdb == "") { leave("operation code " code "h of " name " with more than 65,535 blocks"); return }
@@ -113,17 +124,19 @@ function entry(place, name, cdb, params, status, sensed, data, sent,    code) {
 }
 # Writes the trace, when all is read. One without an entry would say nothing of the disk, so none is written then.
 function finish(    at, count, lines, it, many) {
+    tell_notes(0)
     if (left > 0) tell("left out in all: " left)
     if (reset && kept > 0) tell("the trace begins with a reset (RESET=1): its scenario needs `fence 2` and `resets 1`")
-    tell_notes()
+    tell_notes(1)
     if (kept == 0) { tell("no command is here that a trace has: no trace is written"); ends(1) }
+    if (kept + reset > (version == 2 ? 66536 : 32768)) tell("the trace has " kept + reset " items, and an audit reads " (version == 2 ? 66536 : 32768) ": cut it, since a beginning can be audited too")
     print "fence-trace " version
     if (reset) print ++count, "reset"
     for (at = 1; at <= last_place; at++) {
         many = split(line_at[at], lines, "\n")
         for (it = 1; it <= many; it++) print ++count, lines[it]
     }
-    if (incomplete) ends(1)
+    if (losses) { tell("the trace is not whole, so an audit of it may find the disk at fault that is not"); ends(1) }
 }
 
 # Reads the table of the command line: each NAME=WORD, where the word has this shape, says who the WORD of the recording is in the
