@@ -13,7 +13,7 @@ function no_raw(options) {
 # The data that came back is there as a whole.
 function is_whole(list,    said) {
     if (bytes(cdb, 0, 1) == "03") return list != ""
-    if (bytes(cdb, 1, 1) == "02") return length(list) == 2 * number(bytes(list, 0, 2))
+    if (bytes(cdb, 1, 1) == "02") return list != "" && length(list) == 2 * number(bytes(list, 0, 2))
     said = 8 + number(bytes(list, 4, 4))
     return length(list) >= 16 && (length(list) == 2 * said || length(list) == 2 * got)
 }
@@ -217,7 +217,7 @@ want > 0 { stop("not a line of bytes: " want " of them are wanted here") }
 # What is lost on its way has no answer, whatever the program says behind it.
 /: transport: / || /^>>> (transport|os) error/ || /pass-through (os error|timeout)/ || /^do_scsi_pt: / {
     if (cdb == "" || over) plain_answer(0)
-    else { lost = 1; status = "a transport error"; mode = "" }
+    else { lost = 1; mode = "" }
     next
 }
 /^Completed [0-9]+ Test Unit Ready commands with [0-9]+ errors/ {
@@ -240,7 +240,7 @@ want > 0 { stop("not a line of bytes: " want " of them are wanted here") }
 }
 # (-vvv, and -vvvv)
 /: response(, first 256 bytes)?:$/ && cdb != "" { mode = "dump"; next }
-/PR generation=0x[0-9a-f]+/ && !lost {
+/PR generation=0x[0-9a-f]+/ {
     if (bytes(cdb, 0, 1) != "5e" || head != "" || in_data != "" || word_told != "") { plain_answer(1); next }
     mode = ""
     if (!/Additional length/) { read_words(); next }
@@ -257,12 +257,12 @@ want > 0 { stop("not a line of bytes: " want " of them are wanted here") }
 word_told != "" && is_of_words() { read_words(); next }
 is_agent && /^Additional sense: / { read_sense(); next }
 # (sg_raw)
-/^SCSI Status: / && cdb != "" && !lost { sub(/^SCSI Status: /, ""); sub(/ *$/, ""); status = status_of($0); mode = ""; next }
+/^SCSI Status: / && cdb != "" { sub(/^SCSI Status: /, ""); sub(/ *$/, ""); status = status_of($0); mode = ""; next }
 /^Received [0-9]+ bytes of data:$/ && has_data(bytes(cdb, 0, 1)) { mode = "in"; want = got = $2 + 0; next }
 /, type: (SCSI status|sense key)$/ {
     if (!is_its_own()) { plain_answer(0); next }
     over = 1
-    if (!/sense key$/ && !lost) {
+    if (!/sense key$/) {
         sub(/, type: SCSI status$/, "")
         sub(/^.*: /, "")
         status = status_of($0)
@@ -273,7 +273,7 @@ is_agent && /^Additional sense: / { read_sense(); next }
 /^PR out: command .* successful/ {
     if (!is_its_own()) { plain_answer(0); next }
     over = 1
-    if (!lost) status = "00"
+    status = "00"
     mode = ""
     next
 }
