@@ -2,7 +2,7 @@
 # own, and ends where the next one begins. What a call without -vv prints is read in agent.awk.
 
 # Tells what is missing in the trace, and may have changed the unit: once for each kind. What stands before AFTER doesn't count.
-function missing(line, what) { if (line >= after) lose("line " line, what) }
+function missing(line, what) { if (line >= after && name != "-") lose("line " line, what) }
 # Tells what was done with a line, once for each kind.
 function remark(what) { note("line " NR, what) }
 function no_raw(options) {
@@ -29,6 +29,7 @@ function reason(code, data) {
     if (began < after) return "before line " after
     if (lost) return "it ended in `a transport error`: it never reached the disk, or nobody knows"
     if (status == "") return "how it ended is not told: -vv is wanted"
+    if (status == "02" && sensed == "") return "CHECK CONDITION without a sense"
     if (is_agent && status ~ /^exit/) return "it ended in " status ", and its sense is not in the log"
     if (status !~ /^[0-9]/) return "it ended in `" status "`, which a trace of version " version " does not have"
     if (code == "5f" && out_data == "") return "its parameters are not told" (is_raw ? ", since sg_raw prints none: send it by sg_persist, or put it in by hand" : ": -vv is wanted")
@@ -41,6 +42,7 @@ function is_read(code) { return status == "00" && has_data(code) }
 # TASK SET FULL say that nothing was done.
 function is_lost(code,    sensed_key) {
     if (name == "-" || began < after || status == "Busy" || status == "Task set full" || status == "18") return 0
+    if (status == "02" && sensed == "") return 1
     sensed_key = status == "02" ? substr(sense(sensed, of_it()), 6, 1) : ""
     if (!is_known(code)) return sensed_key == "6"
     if (is_agent && status ~ /^exit/) return !is_refused()
@@ -128,7 +130,7 @@ function status_of(words) {
     return toupper(substr(words, 1, 1)) substr(words, 2)
 }
 # Words of sg_turs and sg_raw beside the lines that are read: then their silence is none.
-function is_of_failure() { return /^test unit ready:/ || /^ *>>>/ || /rror/ || /not ready/ || /[Aa]bort/ || /[Ss]tatus/ || /sense/ }
+function is_of_failure() { return cdb != "" && (/^test unit ready:/ || /^ *>>>/ || /rror/ || /not ready/ || /[Aa]bort/ || /[Ss]tatus/ || /[Ss]ense/) }
 # A line of `set -x` that calls one of these programs, by whatever way.
 function is_announced(    at) {
     if (!/^\++ /) return 0
@@ -262,6 +264,7 @@ is_agent && /^Additional sense: / { read_sense(); next }
 /, type: (SCSI status|sense key)$/ {
     if (!is_its_own()) { plain_answer(0); next }
     over = 1
+    told = 1
     if (!/sense key$/) {
         sub(/, type: SCSI status$/, "")
         sub(/^.*: /, "")
@@ -278,8 +281,8 @@ is_agent && /^Additional sense: / { read_sense(); next }
     next
 }
 /^(PR out|PR in) \(/ { if (!is_its_own()) plain_answer(0); over = 1; next }
-NF > 0 && cdb != "" { told = told || is_of_failure(); next }
-NF > 0 && !plain && !/^found sg_bsg_major/ { remark("not a line of these programs: passed over") }
+is_of_failure() { told = 1; next }
+NF > 0 && !plain && (cdb == "" || status == "" && bytes(cdb, 0, 1) == "00") && !/^found sg_bsg_major/ { remark("not a line of these programs: passed over") }
 END {
     ended()
     finish()
