@@ -282,7 +282,7 @@ is_agent && /^Additional sense: / { read_sense(); next }
 }
 /^(PR out|PR in) \(/ { if (!is_its_own()) plain_answer(0); over = 1; next }
 is_of_failure() { told = 1; next }
-NF > 0 && !plain && (cdb == "" || status == "" && bytes(cdb, 0, 1) == "00") && !/^found sg_bsg_major/ { remark("not a line of these programs: passed over") }
+NF > 0 && !plain && !is_agent && (cdb == "" || status == "" && bytes(cdb, 0, 1) == "00") && !/^found sg_bsg_major/ { remark("not a line of these programs: passed over") }
 END {
     ended()
     finish()
