@@ -32,7 +32,7 @@ function note(where, what, times) {
 # Leaves out what may come thousands of times.
 function leave_many(why) { note(here, "left out: " why); left++ }
 # Notes what may have changed the unit, or what was told to somebody, and is missing in the trace: the filter will end with status 1.
-function lose(where, what, times) { note(where, what, times); is_loss[what] = 1; losses++ }
+function lose(where, what, times) { note(where, what, times); is_loss[what] = 1; incomplete = 1 }
 function tell_notes(losses_too,    at, what, others) {
     for (at = 1; at <= notes; at++) {
         what = note_of[at]
@@ -136,7 +136,7 @@ function finish(    at, count, lines, it, many) {
         many = split(line_at[at], lines, "\n")
         for (it = 1; it <= many; it++) print ++count, lines[it]
     }
-    if (losses) { tell("the trace is not whole, so an audit of it may find the disk at fault that is not"); ends(1) }
+    if (incomplete) { tell("the trace is not whole, so an audit of it may find the disk at fault that is not"); ends(1) }
 }
 
 # Reads the table of the command line: each NAME=WORD, where the word has this shape, says who the WORD of the recording is in the

@@ -243,5 +243,5 @@ END {
     lay_out()
     write_all()
     tell_notes(1)
-    if (losses) ends(1)
+    if (incomplete) ends(1)
 }
