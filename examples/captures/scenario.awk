@@ -146,7 +146,6 @@ function read_start(    at, name, raised, is_changed, is_reserved, has_generatio
             act(name, action_at(at), type_at(at), key_at(at))
         }
     }
-    if (!has_generation) tell("no READ KEYS or READ RESERVATION tells the generation: the scenario begins with 0")
     if (generation < 0) generation += 4294967296
 }
 # The keys that the lines of the scenario name, by its guests.
