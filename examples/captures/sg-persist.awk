@@ -53,7 +53,8 @@ function of_it() { return "the command on line " began " has " }
 # The call is at its end: its command as an entry of the trace.
 function ended(    code, why, data) {
     if (announced) missing(announced, no_raw(options))
-    announced = 0
+    if (opened_at && !announced) missing(opened_at, "a program that opened its device, and what it sent is not in the log. Left out")
+    announced = opened_at = 0
     if (cdb == "") return
     if (is_agent) status = status_of_agent()
     code = bytes(cdb, 0, 1)
@@ -77,7 +78,7 @@ function begin(command) {
     began = NR
     here = "line " began
     status = mode = out_data = in_data = dump = head = sensed = ""
-    want = got = told = lost = over = is_raw = is_agent = announced = plain = 0
+    want = got = told = lost = over = is_raw = is_agent = announced = opened_at = plain = 0
     forget_words()
     if (elsewhere == "") return
     if (began >= after) note(here, another_disk(elsewhere))
@@ -94,9 +95,12 @@ function is_other_disk_than(device) {
 function another_disk(device) { return "another disk, " device ": left out, since the disk is" disks "(DISK says which it is, by one name or more)" }
 
 # A program opens its device.
-function opened(device) { elsewhere = is_other_disk_than(device) ? device : "" }
-# The call before is at its end, if it sent a command. (What `set -x` announces has not yet.)
-function ended_before() { if (cdb != "") ended() }
+function opened(device) {
+    elsewhere = is_other_disk_than(device) ? device : ""
+    opened_at = elsewhere == "" ? NR : 0
+}
+# The call before is at its end, if it has begun. (What `set -x` announces has not yet.)
+function ended_before() { if (cdb != "" || opened_at && !announced) ended() }
 
 # A line of bytes: a place, and 16 bytes at most from the ninth column on, or from the first one (-HHH); of a sense no place. Of some
 # lists it is said how long they are.
@@ -153,8 +157,8 @@ function is_its_own(    code) {
 }
 # What a call without -vv prints. It may have changed the unit, but where it read something.
 function plain_answer(has_read,    line) {
-    line = announced ? announced : NR
-    announced = 0
+    line = announced ? announced : opened_at ? opened_at : NR
+    announced = opened_at = 0
     plain = 1
     ended()
     if (has_read && line >= after) note("line " line, no_raw(""))
@@ -201,7 +205,7 @@ is_result() { agent_status = result() }
     next
 }
 /cdb: / || /^ *cdb to send: / {
-    ended_before()
+    if (cdb != "") ended()
     if ($0 !~ /\[[0-9a-f][0-9a-f]( [0-9a-f][0-9a-f])*\]$/) stop("no command can be read here")
     found = $0
     sub(/^.*\[/, "", found)
@@ -215,7 +219,7 @@ is_result() { agent_status = result() }
 elsewhere != "" { next }
 is_of_bytes() { read_bytes(); next }
 want > 0 { stop("not a line of bytes: " want " of them are wanted here") }
-/[Ee]rror opening file|^[Oo]pen error/ { announced = 0; remark("a call that could not open its device, and sent nothing"); next }
+/[Ee]rror opening file|^[Oo]pen error/ { announced = opened_at = 0; remark("a call that could not open its device, and sent nothing"); next }
 # What is lost on its way has no answer, whatever the program says behind it.
 /: transport: / || /^>>> (transport|os) error/ || /pass-through (os error|timeout)/ || /^do_scsi_pt: / {
     if (cdb == "" || over) plain_answer(0)
