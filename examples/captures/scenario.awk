@@ -52,16 +52,23 @@ function read_claims(    at, name, action) {
 function is_preempt(at) { return action_at(at) == 4 || action_at(at) == 5 }
 # Nobody has this key by what is known so far. (Each key gets one owner at most.)
 function is_missing(key) { return key != no_key && !has_key(key) && !(key in has_owner) }
+# Who registers this key behind this item, and had none before: it may have had the same key already.
+function registers_later(at, key) {
+    for (at++; at <= items; at++) if (is_done_at(at, "5f") && action_at(at) == 6 && key_at(at) == key) return name_at[at] in start_of || registered_at[name_at[at]] < at ? "" : name_at[at]
+    return ""
+}
 # Somebody had this key when the trace began: who claims it, or another guest.
-function add_owner(at, key,    it, name) {
+function add_owner(at, key,    it, name, why) {
     has_owner[key] = 1
     for (it = 1; it <= names_count; it++) {
         name = name_of_number[it]
         if (!(name in start_of) && name in claim && claim[name] == key) { start_of[name] = key; return }
     }
-    name = told_alone()
+    name = registers_later(at, key)
+    why = "which registers it later"
+    if (name == "") { name = told_alone(); why = "which is told of a registration without one of its own" }
     if (name != "") {
-        tell("item " at ": the key " key_word(key) " is taken for that of " name ", which is told of a registration without one of its own")
+        tell("item " at ": the key " key_word(key) " is taken for that of " name ", " why)
         start_of[name] = key
         return
     }
