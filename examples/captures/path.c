@@ -1,9 +1,12 @@
 /* A path to a logical unit over iSCSI for programs that send commands by the SG_IO call, where the kernel has no iSCSI:
  *     path PORTAL TARGET LUN NAME SOCKET      keeps one session, of the initiator iqn.2026-11.example:NAME, and serves SOCKET
  *     PATH_SOCKET=SOCKET LD_PRELOAD=./path.so sg_persist .. FILE      the same source as a library: SG_IO goes there
- * So sg_persist is the real one, and so is the target. Built with: cc -o path path.c -liscsi; cc -shared -fPIC -DLIBRARY -o path.so path.c -ldl */
+ *     PATH_ANSWER='STATUS HOST DRIVER ERROR SENSE' LD_PRELOAD=./path.so sg_persist .. FILE      each command is answered so
+ * So sg_persist is the real one, and so is the target. An ANSWER is four numbers in hexadecimal, the last of which is the error of
+ * the call itself, and the bytes of a sense or -. Built with: cc -o path path.c -liscsi; cc -shared -fPIC -DLIBRARY -o path.so path.c -ldl */
 #define _GNU_SOURCE
 #include <dlfcn.h>
+#include <errno.h>
 #include <stdarg.h>
 #include <stdio.h>
 #include <stdlib.h>
@@ -32,6 +35,25 @@ static int whole(int from, void *to, size_t size)
 }
 
 #ifdef LIBRARY
+/* What the environment says, in place of what a unit would answer. */
+static int chosen(const char *answer, struct sg_io_hdr *it)
+{
+    unsigned status, host, driver, error, byte;
+    char sense[2 * 252 + 1];
+    if (sscanf(answer, "%x %x %x %x %504s", &status, &host, &driver, &error, sense) != 5)
+        exit(9);
+    it->status = status;
+    it->masked_status = status >> 1 & 0x1f;
+    it->host_status = host;
+    it->driver_status = driver;
+    for (it->sb_len_wr = 0; it->sb_len_wr < it->mx_sb_len && sscanf(sense + 2 * it->sb_len_wr, "%2x", &byte) == 1; it->sb_len_wr++)
+        it->sbp[it->sb_len_wr] = byte;
+    it->resid = it->dxfer_len;
+    it->info = status || host || driver ? SG_INFO_CHECK : 0;
+    errno = error;
+    return error ? -1 : 0;
+}
+
 int ioctl(int fd, unsigned long request, ...)
 {
     static int (*real)(int, unsigned long, ...);
@@ -44,6 +66,8 @@ int ioctl(int fd, unsigned long request, ...)
     if (request != SG_IO)
         return real(fd, request, given);
     struct sg_io_hdr *it = given;
+    if (getenv("PATH_ANSWER"))
+        return chosen(getenv("PATH_ANSWER"), it);
     static struct asked asked;
     static struct answered told;
     memset(&asked, 0, sizeof asked);
