@@ -53,7 +53,8 @@ function of_it() { return "the command on line " began " has " }
 # The call is at its end: its command as an entry of the trace.
 function ended(    code, why, data) {
     if (announced) missing(announced, no_raw(options))
-    announced = 0
+    if (opened_at && !announced) missing(opened_at, "a program that opened its device, and what it sent is not in the log. Left out")
+    announced = opened_at = 0
     if (cdb == "") return
     if (is_agent) status = status_of_agent()
     code = bytes(cdb, 0, 1)
@@ -74,10 +75,11 @@ function ended(    code, why, data) {
 # A command is sent. One to another disk is left out.
 function begin(command) {
     cdb = command
+    if (cdb == "000000000000") turs++
     began = NR
     here = "line " began
     status = mode = out_data = in_data = dump = head = sensed = ""
-    want = got = told = lost = over = is_raw = is_agent = announced = plain = 0
+    want = got = told = lost = over = is_raw = is_agent = announced = opened_at = plain = 0
     forget_words()
     if (elsewhere == "") return
     if (began >= after) note(here, another_disk(elsewhere))
@@ -94,9 +96,12 @@ function is_other_disk_than(device) {
 function another_disk(device) { return "another disk, " device ": left out, since the disk is" disks "(DISK says which it is, by one name or more)" }
 
 # A program opens its device.
-function opened(device) { elsewhere = is_other_disk_than(device) ? device : "" }
-# The call before is at its end, if it sent a command. (What `set -x` announces has not yet.)
-function ended_before() { if (cdb != "") ended() }
+function opened(device) {
+    elsewhere = is_other_disk_than(device) ? device : ""
+    opened_at = elsewhere == "" ? NR : 0
+}
+# The call before is at its end, if it has begun. (What `set -x` announces has not yet.)
+function ended_before() { if (cdb != "" || opened_at && !announced) ended() }
 
 # A line of bytes: a place, and 16 bytes at most from the ninth column on, or from the first one (-HHH); of a sense no place. Of some
 # lists it is said how long they are.
@@ -153,12 +158,28 @@ function is_its_own(    code) {
 }
 # What a call without -vv prints. It may have changed the unit, but where it read something.
 function plain_answer(has_read,    line) {
-    line = announced ? announced : NR
-    announced = 0
+    line = announced ? announced : opened_at ? opened_at : NR
+    announced = opened_at = 0
     plain = 1
     ended()
     if (has_read && line >= after) note("line " line, no_raw(""))
     else missing(line, no_raw(""))
+}
+# A part of a call, and its command is not in the log.
+function orphan() {
+    if (plain) return
+    ended()
+    missing(NR, "a part of a call, whose command is not in the log. Left out")
+    plain = 1
+}
+# A line of bytes where none is wanted. (Of other commands that sg_raw sends, none are.)
+function is_of_other_bytes() {
+    return mode == "" && (cdb == "" || is_known(bytes(cdb, 0, 1)) && cdb !~ /^[28]/) && substr($0, 1, 8) ~ /^ *[0-9a-f]* *$/ && substr($0, 9, 49) ~ /^[0-9a-f][0-9a-f] [0-9a-f][0-9a-f]( |$)/
+}
+# A call that prints nothing leaves the line of its node alone.
+function silent_before() {
+    if (node_at) missing(node_at, "a line `node` without a call: one without -vv prints nothing where it ends GOOD. Record again with -vv")
+    node_at = 0
 }
 # The line of `set -x` names a device of another disk.
 function is_to_another(    at) {
@@ -179,12 +200,16 @@ BEGIN {
 }
 $1 == "node" && NF == 2 {
     ended()
+    silent_before()
     elsewhere = ""
     if (has_table && !($2 in named)) stop("no NAME for the node " $2)
     name = has_table ? named[$2] : $2
+    node_at = NR
+    plain = 0
     if (name != "-" && !is_name(name)) stop("a node that can not be a name: a table NAME=" $2 " is wanted")
     next
 }
+NF > 0 { node_at = 0 }
 is_announced() { ended(); elsewhere = ""; plain = 0; announced = is_to_another() ? 0 : NR; options = $0; next }
 /^\++ / { ended(); in_quotes = gsub(/'/, "'") % 2; next }
 in_quotes { in_quotes = !/'/; next }
@@ -194,14 +219,14 @@ is_result() { agent_status = result() }
 # (each program opens its device first)
 /^open .* with flags=/ {
     ended_before()
-    plain = failed_turs = 0
+    plain = turs = failed_turs = 0
     sub(/^open /, "")
     sub(/ with flags=.*$/, "")
     opened($0)
     next
 }
 /cdb: / || /^ *cdb to send: / {
-    ended_before()
+    if (cdb != "") ended()
     if ($0 !~ /\[[0-9a-f][0-9a-f]( [0-9a-f][0-9a-f])*\]$/) stop("no command can be read here")
     found = $0
     sub(/^.*\[/, "", found)
@@ -215,7 +240,7 @@ is_result() { agent_status = result() }
 elsewhere != "" { next }
 is_of_bytes() { read_bytes(); next }
 want > 0 { stop("not a line of bytes: " want " of them are wanted here") }
-/[Ee]rror opening file|^[Oo]pen error/ { announced = 0; remark("a call that could not open its device, and sent nothing"); next }
+/[Ee]rror opening file|^[Oo]pen error/ { announced = opened_at = 0; remark("a call that could not open its device, and sent nothing"); next }
 # What is lost on its way has no answer, whatever the program says behind it.
 /: transport: / || /^>>> (transport|os) error/ || /pass-through (os error|timeout)/ || /^do_scsi_pt: / {
     if (cdb == "" || over) plain_answer(0)
@@ -223,18 +248,24 @@ want > 0 { stop("not a line of bytes: " want " of them are wanted here") }
     next
 }
 /^Completed [0-9]+ Test Unit Ready commands with [0-9]+ errors/ {
+    if ($2 != turs) missing(NR, "sg_turs -n, of whose commands some are not in the log. Left out")
     if ($8 != failed_turs) stop("of " $2 " commands of sg_turs -n " $8 " failed, and which is not told: call it once for each")
     next
 }
-/parameters:$/ && bytes(cdb, 0, 1) == "5f" { mode = "out"; want = number(bytes(cdb, 5, 4)); next }
-/Raw sense data/ && cdb != "" {
+is_of_other_bytes() { orphan(); next }
+/parameters:$/ && (bytes(cdb, 0, 1) != "5f" || out_data != "") { orphan(); next }
+/Raw sense data/ && (cdb == "" || sensed != "" || status != "" && status != "02") { orphan(); next }
+/pass-through requested .* \(data-in\), got/ && (cdb == "" || status != "") { orphan(); next }
+/^SCSI Status: / && (!is_raw || cdb == "" || status != "") { orphan(); next }
+/parameters:$/ { mode = "out"; want = number(bytes(cdb, 5, 4)); next }
+/Raw sense data/ {
     mode = "sense"
     status = "02"
     failed_turs++
     if (/sb_len=[0-9]/) want = number_behind("sb_len=") + 0
     next
 }
-/pass-through requested .* \(data-in\), got/ && cdb != "" {
+/pass-through requested .* \(data-in\), got/ {
     mode = "in"
     status = "00"
     if (match($0, /got [0-9]+ bytes/)) got = substr($0, RSTART + 4, RLENGTH - 10) + 0
@@ -259,7 +290,7 @@ want > 0 { stop("not a line of bytes: " want " of them are wanted here") }
 word_told != "" && is_of_words() { read_words(); next }
 is_agent && /^Additional sense: / { read_sense(); next }
 # (sg_raw)
-/^SCSI Status: / && cdb != "" { sub(/^SCSI Status: /, ""); sub(/ *$/, ""); status = status_of($0); mode = ""; next }
+/^SCSI Status: / { sub(/^SCSI Status: /, ""); sub(/ *$/, ""); status = status_of($0); mode = ""; next }
 /^Received [0-9]+ bytes of data:$/ && has_data(bytes(cdb, 0, 1)) { mode = "in"; want = got = $2 + 0; next }
 /, type: (SCSI status|sense key)$/ {
     if (!is_its_own()) { plain_answer(0); next }
@@ -285,5 +316,6 @@ is_of_failure() { told = 1; next }
 NF > 0 && !plain && !is_agent && (cdb == "" || status == "" && bytes(cdb, 0, 1) == "00") && !/^found sg_bsg_major/ { remark("not a line of these programs: passed over") }
 END {
     ended()
+    silent_before()
     finish()
 }
