@@ -35,6 +35,7 @@ function is_of_agent() { return /^(INFO: |DEBUG: )?Executing: / }
 function key_of(word) { word = tolower(word); sub(/^0x/, "", word); return padded(word, 16) }
 function execute(    at, program, flags, action, type, keys, device) {
     sub(/^.*Executing: /, "")
+    sub(/(#012)+$/, "")
     program = $1
     sub(/^.*\//, "", program)
     type = "00"
@@ -66,7 +67,17 @@ function result(    found) {
     sub(/^[0-9]+ /, "")
     return found
 }
-function read_sense() { sub(/^Additional sense: /, ""); sense_code = $0 in sense_words ? sense_words[$0] : "" }
+function read_sense() { sub(/^ *Additional sense: /, ""); sense_code = $0 in sense_words ? sense_words[$0] : "" }
+# What syslog writes of more lines: one, with #012 in place of each end of a line.
+function read_escaped(    parts, count, at) {
+    count = split($0, parts, "#012")
+    for (at = 1; at <= count; at++) {
+        $0 = parts[at]
+        if (/: transport: /) lost = 1
+        else if (/PR generation=0x/ || word_told != "" && is_of_words()) read_words()
+        else if (/^ *Additional sense: /) read_sense()
+    }
+}
 function status_of_agent() {
     if (lost || agent_status == "") return status
     if (agent_status == 0) return "00"

@@ -215,6 +215,7 @@ is_announced() { ended(); elsewhere = ""; plain = 0; announced = is_to_another()
 in_quotes { in_quotes = !/'/; next }
 is_of_agent() { ended(); execute(); next }
 is_result() { agent_status = result() }
+is_agent && /#012/ { read_escaped(); next }
 /^(DEBUG|INFO|WARNING|ERROR|CRITICAL): / { ended(); elsewhere = ""; next }
 # (each program opens its device first)
 /^open .* with flags=/ {
@@ -288,7 +289,7 @@ is_of_other_bytes() { orphan(); next }
     next
 }
 word_told != "" && is_of_words() { read_words(); next }
-is_agent && /^Additional sense: / { read_sense(); next }
+is_agent && /^ *Additional sense: / { read_sense(); next }
 # (sg_raw)
 /^SCSI Status: / { sub(/^SCSI Status: /, ""); sub(/ *$/, ""); status = status_of($0); mode = ""; next }
 /^Received [0-9]+ bytes of data:$/ && has_data(bytes(cdb, 0, 1)) { mode = "in"; want = got = $2 + 0; next }
