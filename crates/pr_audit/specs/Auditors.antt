@@ -4,10 +4,12 @@ use Rattle.std.specs.Prelude.{◌≡◌, ℕ, Bool, true, false, List, [], ◌�
 use Rattle.pr_cdb.specs.declared.command.Command.{Command}
 use Rattle.pr_unit.specs.UnitStates.{UnitState}
 use Rattle.pr_script.specs.Scripts.{ready}
+use Rattle.pr_cdb.specs.Spelling.{spelling}
+use Rattle.pr_roles.specs.declared.entry.Entry.{Entry}
 use Rattle.pr_roles.specs.declared.item.Item.{Item}
 use Rattle.pr_roles.specs.declared.parts.Parts.{Parts}
 use Rattle.pr_roles.specs.Scenarios.{Scenario, Task, Scripted, Planned, scenario_of}
-use Rattle.pr_roles.specs.Worlds.{World, Event, Happens, Control, Going, Trapped, Free, standing_of, world_from}
+use Rattle.pr_roles.specs.Worlds.{World, Event, Happens, Control, Going, Trapped, Free, standing_of, control_after, world_from}
 use Rattle.pr_audit.specs.declared.auditor.Auditor.{Auditor}
 use Rattle.pr_audit.specs.declared.sender.Sender.{Sender}
 use Rattle.pr_audit.specs.declared.sender.Sender.TheVariants as sender
@@ -59,6 +61,13 @@ StartsAt p u a = world_at a [] ≡ world_from (scenario_of p) u
 -- the item was tried after these, with this answer, which led from one auditor to the other
 abbrev pub IsTriedAfter : Parts → List Item → Item → Bool → Auditor → Auditor → Type 0
 IsTriedAfter p before i answer a b = IsTried (scenario_of p) (world_at a before) i answer (world_at b (before ++ i ∷ []))
+
+-- One that acts so, once it has sent the entry whatever was expected: a script that is ready to send just these bytes takes the
+-- reply. Any other one acts as before.
+abbrev pub IsPast : Entry → Control → Control → Type 0
+IsPast e k after =
+    ((line : ℕ) (command : Command) → standing_of k ≡ Some (ready line command) → e.wire ≡ spelling command → after ≡ control_after line k e.reply)
+    × (((line : ℕ) (command : Command) → standing_of k ≡ Some (ready line command) → e.wire ≡ spelling command → ⊥) → after ≡ k)
 
 -- the line at which one that acts so is ready, and its command there
 abbrev pub IsNextOf : Control → ℕ × Command → Type 0

@@ -1,10 +1,10 @@
 //! A scenario as a history of it is followed: its unit, and who may send what next.
 
-ghost use Rattle.std.specs.Prelude.{◌≡◌, ◌<◌, [], Some, length, IfSome, IfOk};
+ghost use Rattle.std.specs.Prelude.{◌≡◌, ◌<◌, [], Some, length, slice_set, IfSome, IfOk};
 ghost use Rattle.pr_roles.specs.Scenarios.{scenario_of};
 ghost use Rattle.pr_roles.specs.FirstStarts.{first_state};
 ghost use Rattle.pr_roles.specs.Worlds.{control};
-ghost use Rattle.pr_audit.specs.Auditors.{IsAuditorOf, IsNextOf, IsTriedAfter, StartsAt, world_at};
+ghost use Rattle.pr_audit.specs.Auditors.{IsAuditorOf, IsNextOf, IsPast, IsTriedAfter, StartsAt, world_at};
 ghost use Rattle.pr_audit.specs.Ends.{IsEndBy};
 ghost use Rattle.pr_audit.specs.inside.Auditing.{AreFirstSenders, how_of};
 
@@ -63,6 +63,34 @@ impl Auditor {
             Item::Sent(entry) => self.admits_sent(scenario, before, entry),
             Item::Reset => self.admits_reset(scenario, before),
         }
+    }
+
+    /// Goes past an entry that is taken as it is, whatever was expected: a script that is ready to send just these bytes takes the
+    /// reply. What becomes of the unit is said by [`Auditor::set_unit`].
+    pub fn pass(&mut self, scenario: &Scenario, entry: &Entry)
+        requires acts { IsAuditorOf scenario.now self.old }
+        requires there { entry.now.host < length (scenario_of scenario.now).nexuses }
+        ensures unit { (world_at self.new []).unit ≡ (world_at self.old []).unit }
+        ensures sender { IsPast entry.now (control (world_at self.old []) entry.now.host)
+            (control (world_at self.new []) entry.now.host) }
+        ensures others { (world_at self.new []).controls
+            ≡ slice_set (world_at self.old []).controls entry.now.host
+            (control (world_at self.new []) entry.now.host) }
+        ensures acts { IsAuditorOf scenario.now self.new }
+    {
+        self.senders[usize::from(entry.host)].passes(entry);
+    }
+
+    /// Goes on over this unit, with each script where it is.
+    pub fn set_unit(&mut self, scenario: &Scenario, unit: Unit)
+        requires acts { IsAuditorOf scenario.now self.old }
+        requires hosts { unit.registry.hosts ≡ length (scenario_of scenario.now).nexuses }
+        ensures unit { (world_at self.new []).unit ≡ unit }
+        ensures controls { (world_at self.new []).controls ≡ (world_at self.old []).controls }
+        ensures acts { IsAuditorOf scenario.now self.new }
+    {
+        let _ = scenario;
+        self.unit = unit;
     }
 
     /// The unit as it is after what was admitted.

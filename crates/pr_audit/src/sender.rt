@@ -5,7 +5,7 @@ ghost use Rattle.pr_cdb.specs.Requests.{AreBytes};
 ghost use Rattle.pr_roles.specs.Permits.{is_permitted};
 ghost use Rattle.pr_roles.specs.Scenarios.{task_of};
 ghost use Rattle.pr_roles.specs.Worlds.{control_of};
-ghost use Rattle.pr_audit.specs.Auditors.{IsNextOf, control_by};
+ghost use Rattle.pr_audit.specs.Auditors.{IsNextOf, IsPast, control_by, is_free};
 ghost use Rattle.pr_audit.specs.Ends.{IsEndBy};
 ghost use Rattle.pr_audit.specs.inside.Auditing.{IsAnswered, IsGuestJudged, JudgesEntry, IsShort};
 
@@ -65,6 +65,20 @@ impl Sender {
             },
             Sender::Trapped(line) => End::Trapped(*line),
             Sender::Guest => End::Left(planned),
+        }
+    }
+
+    /// Goes past an entry of its own that is taken as it is: a script that is ready to send just these bytes takes the reply.
+    pub(crate) fn passes(&mut self, entry: &Entry)
+        ensures past { IsPast entry.now (control_by self.old) (control_by self.new) }
+        ensures free { is_free (control_by self.new) ≡ is_free (control_by self.old) }
+    {
+        if let Sender::Host(machine) = self
+            && let Next::Send { line, command } = machine.next()
+            && entry.wire == encode(&command)
+            && machine.take(&entry.reply).is_err()
+        {
+            *self = Sender::Trapped(line);
         }
     }
 

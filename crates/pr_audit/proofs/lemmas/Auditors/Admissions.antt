@@ -1,8 +1,10 @@
 -- An entry that one among the senders was asked for.
-use Rattle.pr_audit.proofs.Common.{◌≡◌, ℕ, ◌<◌, ◌≤◌, Bool, true, false, List, [], ◌∷◌, ◌++◌, map, length, get_or, IsTrue, slice_set, Some, vec_len, sym, refl, ap, ◌∙◌, subst, arith, option_map_or, get_or-map, length-map, map-set, slice_get-get_or, UnitState, may_come, Task, Scripted, Planned, Nexus, role, Scenario, scenario_of, Free, World, control, control_of, Entry, How, Item, Sent, Parts, control_by, Adds, IsTried, is_free, ActFor, is_planned, IsJudged}
+use Rattle.pr_audit.proofs.Common.{◌≡◌, ℕ, ◌<◌, ◌≤◌, Bool, true, false, List, [], ◌∷◌, ◌++◌, map, length, get_or, IsTrue, slice_set, Some, vec_len, sym, refl, ap, ◌∙◌, subst, arith, option_map_or, get_or-map, length-map, map-set, slice_get-get_or, map-set_same, slice_get, UnitState, may_come, Task, Scripted, Planned, Nexus, role, Scenario, scenario_of, Free, World, control, control_of, Entry, How, Item, Sent, Parts, control_by, Adds, IsTried, is_free, ActFor, is_planned, IsJudged}
 use Rattle.std.proofs.Common.{Vec, Global}
+use Rattle.std.proofs.lemmas.List.{length-set, get_or-set_same}
 use Rattle.pr_roles.specs.declared.parts.Nexus.{Nexus as NexusPart}
 use Rattle.pr_audit.specs.declared.sender.Sender.{Sender}
+use Rattle.pr_audit.specs.Auditors.{IsPast}
 use Rattle.pr_audit.specs.inside.Auditing.{how_of}
 use Rattle.pr_audit.proofs.lemmas.Auditing.Parts.{count_of_parts, role_at}
 use Rattle.pr_audit.proofs.lemmas.Auditors.Additions.{judged_tried, judged_acts, none_left, none_past}
@@ -64,6 +66,20 @@ pub none_tried : (so : How) (s : Scenario) (u : UnitState) (senders : List Sende
 none_tried so s u senders e before acts told over x adds =
     none_left s (world_of u senders before) e x (others_acts s u senders [] before acts) (subst (λ k. may_come s before e.host k ≡ false) told over) adds
 
+-- ---- the sender at a place
+
+pub sender_at : (senders : List Sender) (h i : ℕ) (x : Sender) → i ≡ h → x ≡ get_or senders i x → get_or (map control_by senders) h (control_by x) ≡ control_by x
+sender_at senders h i x at found = get_or-map control_by senders h x ∙ ap control_by (sym (found ∙ ap (λ j. get_or senders j x) at))
+
+pub control_at : (s : Scenario) (u : UnitState) (senders : List Sender) (es : List Item) (h i : ℕ) (x : Sender) → ActFor s (world_of u senders []) → h < length s.nexuses → i ≡ h → x ≡ get_or senders i x
+    → control (world_of u senders es) h ≡ control_by x
+control_at s u senders es h i x acts there at found =
+    let among : h < length (map control_by senders) = rw (length-map senders control_by, length-senders s u senders [] acts) there in
+    ap (λ o. option_map_or (λ c. c) o Free) (slice_get-get_or (map control_by senders) h (control_by x) among ∙ ap Some (sender_at senders h i x at found))
+
+pub controls_with : (senders : List Sender) (h i : ℕ) (y : Sender) → i ≡ h → map control_by (slice_set senders i y) ≡ slice_set (map control_by senders) h (control_by y)
+controls_with senders h i y at = map-set control_by senders i y ∙ ap (λ j. slice_set (map control_by senders) j (control_by y)) at
+
 -- ---- the sender of the entry
 
 module _ (so : How) (p q : Parts) (u v : UnitState) (senders : List Sender) (e : Entry) (i : ℕ) (n : NexusPart) (x y : Sender) (b : Bool) (acts : ActFor (scenario_of p) (world_of u senders []))
@@ -75,24 +91,41 @@ module _ (so : How) (p q : Parts) (u v : UnitState) (senders : List Sender) (e :
       subst (λ clauses. IsJudged (how_of e.reply.status) (control_by x) clauses u e b (control_by y) v) (role_at p e.host n there named)
       (subst (λ k. IsJudged k (control_by x) n.role.clauses.items u e b (control_by y) v) told judged)
 
-  sender_here : get_or (map control_by senders) e.host (control_by x) ≡ control_by x
-  sender_here = get_or-map control_by senders e.host x ∙ ap control_by (sym (participation ∙ ap (λ j. get_or senders j x) at))
-
-  control_here : (before : List Item) → control (world_of u senders before) e.host ≡ control_by x
-  control_here before =
-      let among : e.host < length (map control_by senders) = rw (length-map senders control_by, length-senders (scenario_of p) u senders [] acts) there in
-      ap (λ o. option_map_or (λ c. c) o Free) (slice_get-get_or (map control_by senders) e.host (control_by x) among ∙ ap Some sender_here)
-
-  controls_after : map control_by (slice_set senders i y) ≡ slice_set (map control_by senders) e.host (control_by y)
-  controls_after = map-set control_by senders i y ∙ ap (λ j. slice_set (map control_by senders) j (control_by y)) at
-
   pub sender_tried : (before : List Item) → may_come (scenario_of p) before e.host so ≡ true → IsTried (scenario_of p) (world_of u senders before) (Sent e) b (world_of v (slice_set senders i y) (before ++ Sent e ∷ []))
   sender_tried before room =
-      subst (λ ks. IsTried (scenario_of p) (world_of u senders before) (Sent e) b (record { unit = v; controls = ks; history = before ++ Sent e ∷ [] })) (sym controls_after)
-      (judged_tried (scenario_of p) (world_of u senders before) e (control_by x) (control_by y) b v (others_acts (scenario_of p) u senders [] before acts) there (control_here before)
+      subst (λ ks. IsTried (scenario_of p) (world_of u senders before) (Sent e) b (record { unit = v; controls = ks; history = before ++ Sent e ∷ [] })) (sym (controls_with senders e.host i y at))
+      (judged_tried (scenario_of p) (world_of u senders before) e (control_by x) (control_by y) b v (others_acts (scenario_of p) u senders [] before acts) there (control_at (scenario_of p) u senders before e.host i x acts there at participation)
       (subst (λ k. IsTrue (may_come (scenario_of p) before e.host k)) told room) by_role)
 
   pub sender_acts : ActFor (scenario_of p) (world_of v (slice_set senders i y) [])
   sender_acts =
-      subst (λ ks. ActFor (scenario_of p) (record { unit = v; controls = ks; history = [] })) (sym controls_after)
-      (judged_acts (scenario_of p) (world_of u senders []) e (control_by x) (control_by y) b v [] acts sender_here by_role)
+      subst (λ ks. ActFor (scenario_of p) (record { unit = v; controls = ks; history = [] })) (sym (controls_with senders e.host i y at))
+      (judged_acts (scenario_of p) (world_of u senders []) e (control_by x) (control_by y) b v [] acts (sender_at senders e.host i x at participation) by_role)
+
+-- ---- an entry that is taken as it is
+
+module _ (s : Scenario) (u v : UnitState) (senders : List Sender) (e : Entry) (i : ℕ) (x y : Sender) (acts : ActFor s (world_of u senders [])) (there : e.host < length s.nexuses) (at : i ≡ e.host)
+    (found : x ≡ get_or senders i x) where
+  control_past : control (world_of v (slice_set senders i y) []) e.host ≡ control_by y
+  control_past =
+      let among : e.host < length (map control_by senders) = rw (length-map senders control_by, length-senders s u senders [] acts) there in
+      let past : e.host < length (slice_set (map control_by senders) e.host (control_by y)) = rw length-set among in
+      ap (λ ks. option_map_or (λ c. c) (slice_get ks e.host) Free) (controls_with senders e.host i y at)
+      ∙ ap (λ o. option_map_or (λ c. c) o Free) (slice_get-get_or (slice_set (map control_by senders) e.host (control_by y)) e.host (control_by y) past
+      ∙ ap Some (get_or-set_same (map control_by senders) e.host (control_by y) (control_by y) among))
+
+  pub sender_past : IsPast e (control_by x) (control_by y) → IsPast e (control (world_of u senders []) e.host) (control (world_of v (slice_set senders i y) []) e.host)
+  sender_past is =
+      subst (λ k. IsPast e k (control (world_of v (slice_set senders i y) []) e.host)) (sym (control_at s u senders [] e.host i x acts there at found))
+      (subst (λ k. IsPast e (control_by x) k) (sym control_past) is)
+
+  pub controls_past : map control_by (slice_set senders i y) ≡ slice_set (map control_by senders) e.host (control (world_of v (slice_set senders i y) []) e.host)
+  controls_past = controls_with senders e.host i y at ∙ ap (slice_set (map control_by senders) e.host) (sym control_past)
+
+  pub past_acts : v.registry.hosts ≡ length s.nexuses → is_free (control_by y) ≡ is_free (control_by x) → ActFor s (world_of v (slice_set senders i y) [])
+  past_acts hosts free = record {
+    hosts = hosts;
+    tasks =
+        ap (map is_free) (controls_with senders e.host i y at)
+        ∙ (map-set_same is_free (map control_by senders) e.host (control_by y) (control_by x) (free ∙ ap is_free (sym (sender_at senders e.host i x at found))) ∙ acts.tasks);
+  }
