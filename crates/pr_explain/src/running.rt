@@ -4,13 +4,11 @@ use crate::lint_words::put_numbered;
 use crate::saying::{Part, name, number, say};
 use crate::senders::SentBy;
 use crate::source::line_of;
-use pr_attention::{Attention, Pending};
 use pr_output::{WriteFault, put};
 use pr_roles::{Action, Clause, Item, Nexus};
-use pr_unit::Unit;
 use pr_verify::Refusal;
 use pr_witness::{Bound, Breach, Broken, Finding};
-use pr_words::{name_of, put_item, put_sense, put_unit};
+use pr_words::{name_of, put_item, put_start};
 use std::io::Write;
 
 /// Writes a run that shows why it is refused, or that none was found.
@@ -120,8 +118,7 @@ fn put_run<W: Write>(
     breach: &Breach,
     senders: &[SentBy],
 ) -> Result<(), WriteFault> {
-    put_unit(writer, nexuses, breach.start.registry())?;
-    put_all_waiting(writer, nexuses, &breach.start)?;
+    put_start(writer, nexuses, &breach.start)?;
     for (index, item) in breach.history.iter().enumerate() {
         let line = match senders.get(index) {
             Some(SentBy::Line(line)) => Some(*line),
@@ -137,35 +134,6 @@ fn put_run<W: Write>(
     }
     put_broken(writer, nexuses, breach)?;
     put_permissions(writer, lines, nexuses, &breach.history, senders)
-}
-
-// What waits for each nexus at the start.
-fn put_all_waiting<W: Write>(
-    writer: &mut W,
-    nexuses: &[Nexus],
-    start: &Unit,
-) -> Result<(), WriteFault> {
-    for host in 0..start.registry().hosts() {
-        put_waiting(writer, name_of(nexuses, host), start.pending(host))?;
-    }
-    Ok(())
-}
-
-fn put_waiting<W: Write>(
-    writer: &mut W,
-    owner: &[u8],
-    pending: &Pending,
-) -> Result<(), WriteFault> {
-    for attention in Attention::ALL {
-        if pending.has(attention) {
-            put_sense(writer, attention.sense())?;
-            say(
-                writer,
-                &[Part::Text(b" waits for"), name(owner), Part::Text(b"\n")],
-            )?;
-        }
-    }
-    Ok(())
 }
 
 // What the last of the commands breaks.

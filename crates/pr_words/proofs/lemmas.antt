@@ -1,1 +1,2 @@
 pub mod Nexuses
+pub mod Adoptions

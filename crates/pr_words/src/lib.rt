@@ -5,6 +5,7 @@
 //! each call is safe and ends, and of a history that what is told of it is legal just where an audit says so.
 #![tactic(auto)]
 
+mod adopting;
 mod command;
 mod held;
 mod item;
@@ -22,6 +23,6 @@ pub use item::put_item;
 pub use reply::{put_class, put_reply};
 pub use sense::put_sense;
 pub use source_line::{line_in, put_carets, put_source_line};
-pub use standing::{name_of, put_end, put_unit};
+pub use standing::{name_of, put_end, put_start, put_unit};
 pub use tale::write_telling;
-pub use telling::{Instead, Note, Telling, telling_of};
+pub use telling::{Departure, Instead, Note, Telling, telling_from, telling_of};

@@ -98,12 +98,18 @@ fn put_reservation_data<W: Write>(writer: &mut W, data: &[u8]) -> Result<(), Wri
     }
 }
 
-// The generation, where the data has it.
+/// The generation, where the data of a READ KEYS or READ RESERVATION has it.
+pub(crate) fn generation_in(data: &[u8]) -> Option<u32> {
+    match data {
+        [a, b, c, d, ..] => Some(u32::from_be_bytes([*a, *b, *c, *d])),
+        _ => None,
+    }
+}
+
 fn put_generation<W: Write>(writer: &mut W, data: &[u8]) -> Result<(), WriteFault> {
-    let [a, b, c, d, ..] = data else {
+    let Some(generation) = generation_in(data) else {
         return Ok(());
     };
-    let generation = u32::from_be_bytes([*a, *b, *c, *d]);
     put_spaced(
         writer,
         &[

@@ -1,10 +1,13 @@
 //! How the unit and each nexus stand, in words.
 
 use crate::held::put_held;
+use crate::sense::put_sense;
+use pr_attention::{Attention, Pending};
 use pr_audit::End;
 use pr_output::{Token, WriteFault, put, put_line, put_spaced};
 use pr_registry::Registry;
 use pr_roles::Nexus;
+use pr_unit::Unit;
 use std::io::Write;
 
 /// The name of a nexus, by its number; empty where there is none.
@@ -29,6 +32,35 @@ pub fn put_unit<W: Write>(
         put_registration(writer, name_of(nexuses, host), unit.key(host))?;
     }
     put(writer, b"\n")
+}
+
+/// Writes how the unit stands at a start: its line, and one for each attention that is pending.
+pub fn put_start<W: Write>(
+    writer: &mut W,
+    nexuses: &[Nexus],
+    unit: &Unit,
+) -> Result<(), WriteFault> {
+    put_unit(writer, nexuses, unit.registry())?;
+    for host in 0..unit.registry().hosts() {
+        put_waiting(writer, name_of(nexuses, host), unit.pending(host))?;
+    }
+    Ok(())
+}
+
+fn put_waiting<W: Write>(
+    writer: &mut W,
+    owner: &[u8],
+    pending: &Pending,
+) -> Result<(), WriteFault> {
+    for attention in Attention::ALL {
+        if pending.has(attention) {
+            put_sense(writer, attention.sense())?;
+            put(writer, b" waits for")?;
+            put_spaced(writer, &[Token::Text(owner)])?;
+            put(writer, b"\n")?;
+        }
+    }
+    Ok(())
 }
 
 fn put_registration<W: Write>(

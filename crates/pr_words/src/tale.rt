@@ -4,16 +4,16 @@ use crate::command::put_command;
 use crate::item::put_item;
 use crate::reply::put_reply;
 use crate::standing::{name_of, put_end, put_unit};
-use crate::telling::{Instead, Note, Telling};
+use crate::telling::{Departure, Instead, Telling};
 use pr_audit::End;
 use pr_cdb::Status;
 use pr_output::{Token, WriteFault, put, put_line, put_number, put_spaced};
 use pr_roles::{Entry, Item, Nexus, Scenario};
 use std::io::Write;
 
-/// Writes a history as it is told: each item in front of the first that isn't legal, with the line of the script that it comes
-/// from; whether the history is legal, and what would have been in place of an item that isn't; the unit, and how each nexus
-/// stands. A trace's own last lines are not told.
+/// Writes a history as it is told: each item, with the line of the script that it comes from, and behind one that isn't legal what
+/// would have been in its place; whether the history is legal, and how many items aren't; the unit, and how each nexus stands.
+/// Behind an item that isn't legal it is told as if the answer had been right. A trace's own last lines are not told.
 pub fn write_telling<W: Write>(
     writer: &mut W,
     scenario: &Scenario,
@@ -21,8 +21,8 @@ pub fn write_telling<W: Write>(
     telling: &Telling,
 ) -> Result<(), WriteFault> {
     let nexuses = &scenario.parts().nexuses;
-    put_items(writer, nexuses, history, &telling.notes)?;
-    put_verdict(writer, nexuses, history, telling)?;
+    put_items(writer, nexuses, history, telling)?;
+    put_count(writer, history, telling)?;
     put_unit(writer, nexuses, telling.unit.registry())?;
     put_ends(writer, nexuses, &telling.ends, &telling.counts)
 }
@@ -31,12 +31,15 @@ fn put_items<W: Write>(
     writer: &mut W,
     nexuses: &[Nexus],
     history: &[Item],
-    notes: &[Note],
+    telling: &Telling,
 ) -> Result<(), WriteFault> {
-    for (others, (item, note)) in history.iter().zip(notes).enumerate() {
+    for (others, (item, note)) in history.iter().zip(&telling.notes).enumerate() {
         put_item(writer, nexuses, others as u64 + 1, item, note.line)?;
         if let (Item::Sent(entry), true) = (item, note.is_out_of_role) {
             put_out_of_role(writer, name_of(nexuses, entry.host))?;
+        }
+        if let Some(at) = note.departure {
+            put_departure(writer, nexuses, item, &telling.departures, at)?;
         }
     }
     Ok(())
@@ -53,28 +56,43 @@ fn put_out_of_role<W: Write>(writer: &mut W, name: &[u8]) -> Result<(), WriteFau
     )
 }
 
-// Whether it is legal, and why not.
-fn put_verdict<W: Write>(
+// That the item isn't legal, and what would have been in its place. The first of them is the one that an audit tells.
+fn put_departure<W: Write>(
     writer: &mut W,
     nexuses: &[Nexus],
+    item: &Item,
+    departures: &[Departure],
+    at: usize,
+) -> Result<(), WriteFault> {
+    let Some(departure) = departures.get(at) else {
+        return Ok(());
+    };
+    if at > 0 {
+        put(writer, b"then ")?;
+    }
+    put(writer, b"illegal ")?;
+    put_number(writer, departure.place as u64)?;
+    put(writer, b": ")?;
+    put_instead(writer, nexuses, item, &departure.instead)?;
+    put(writer, b"\n")
+}
+
+// That the history is legal, or how many of its items aren't, if that is more than one.
+fn put_count<W: Write>(
+    writer: &mut W,
     history: &[Item],
     telling: &Telling,
 ) -> Result<(), WriteFault> {
-    let Some(place) = telling.illegal else {
+    let count = telling.departures.len();
+    if telling.illegal.is_none() {
         let items = Token::Number(history.len() as u64);
         return put_line(writer, Token::Text(b"legal"), &[items]);
-    };
-    let item = history.get(place.saturating_sub(1));
-    if let Some(item) = item {
-        put_item(writer, nexuses, place as u64, item, None)?;
     }
-    put(writer, b"illegal ")?;
-    put_number(writer, place as u64)?;
-    if let (Some(item), Some(instead)) = (item, &telling.instead) {
-        put(writer, b": ")?;
-        put_instead(writer, nexuses, item, instead)?;
+    if count < 2 {
+        return Ok(());
     }
-    put(writer, b"\n")
+    let count = Token::Number(count as u64);
+    put_line(writer, Token::Text(b"illegal in all:"), &[count])
 }
 
 fn put_instead<W: Write>(
@@ -118,6 +136,10 @@ fn put_instead_of<W: Write>(
             put(writer, b" does not permit that this ends GOOD there")
         }
         Instead::Refusals(most) => put_refusals(writer, name, entry.reply.status, *most),
+        Instead::Bare => put(
+            writer,
+            b"such a reply has no sense and no data, and this one has",
+        ),
         Instead::Resets(_) => Ok(()),
     }
 }
@@ -171,7 +193,8 @@ fn put_resets<W: Write>(writer: &mut W, instead: &Instead) -> Result<(), WriteFa
         | Instead::Nothing(_)
         | Instead::NotModelled
         | Instead::NotPermitted
-        | Instead::Refusals(_) => Ok(()),
+        | Instead::Refusals(_)
+        | Instead::Bare => Ok(()),
     }
 }
 

@@ -5,7 +5,8 @@ ghost use Rattle.pr_roles.specs.Scenarios.{scenario_of};
 ghost use Rattle.pr_audit.specs.Auditors.{ActFor, world_at};
 ghost use Rattle.pr_words.specs.Tellings.{IsTold};
 
-use pr_audit::{AuditError, Auditor, End, audit, counts_of};
+use crate::adopting::adopt;
+use pr_audit::{AuditError, Auditor, End, audit, counts_of, refused};
 use pr_cdb::{Command, Reply, Status, decode, encode};
 use pr_roles::{Entry, Item, Scenario, first_start, permits};
 use pr_unit::Unit;
@@ -23,6 +24,20 @@ pub struct Note {
 
     /// It is a host's command that ended GOOD, which its role does not permit at that moment.
     pub is_out_of_role: bool,
+
+    /// Which of the departures it is, where it isn't legal.
+    pub departure: Option<usize>,
+}
+
+impl Note {
+    // Nothing stands beside the item but the line of the send that it is a command of.
+    fn at(line: Option<u32>) -> Note {
+        Note {
+            line,
+            is_out_of_role: false,
+            departure: None,
+        }
+    }
 }
 
 /// What would have been in place of an item that isn't legal.
@@ -46,8 +61,21 @@ pub enum Instead {
     /// Such a refusal comes so often at most.
     Refusals(u32),
 
+    /// Such a refusal comes without sense and data.
+    Bare,
+
     /// Resets come so often at most.
     Resets(u32),
+}
+
+/// An item that isn't legal: the first, or one behind it, where all that was answered before is taken as it is.
+#[derive(Drop)]
+pub struct Departure {
+    /// The place of the item, counted from 1.
+    pub place: usize,
+
+    /// What would have been in its place.
+    pub instead: Instead,
 }
 
 /// A history as it is told.
@@ -56,13 +84,13 @@ pub struct Telling {
     /// The place of the first item that isn't legal, counted from 1.
     pub illegal: Option<usize>,
 
-    /// What stands beside each item in front of that.
+    /// What stands beside each item.
     pub notes: Vec<Note>,
 
-    /// What would have been in place of that.
-    pub instead: Option<Instead>,
+    /// The items that aren't legal, in order.
+    pub departures: Vec<Departure>,
 
-    /// The unit as it is in front of that, or at the end.
+    /// The unit as it is at the end, where the answers are taken as they are.
     pub unit: Unit,
 
     /// How each nexus stands there.
@@ -86,41 +114,89 @@ pub fn telling_of(
         Err(AuditError::Illegal { place }) => Some(place),
         Err(AuditError::Memory) => return Err(AllocError),
     };
-    let mut auditor = Auditor::from_start(alloc, scenario, first_start(scenario))?;
-    let (notes, instead) = follow(alloc, &mut auditor, scenario, history)?;
+    let mut telling = telling_from(alloc, scenario, history, first_start(scenario))?;
+    telling.illegal = illegal;
+    Ok(telling)
+}
+
+/// What is told of this history of the scenario, from this unit. Of its items nothing is proved.
+pub fn telling_from(
+    alloc: Global,
+    scenario: &Scenario,
+    history: &[Item],
+    start: Unit,
+) -> Result<Telling, AllocError>
+    requires { start.registry.hosts ≡ length (scenario_of scenario.now).nexuses }
+{
+    let mut auditor = Auditor::from_start(alloc, scenario, start)?;
+    let (notes, departures) = follow(alloc, &mut auditor, scenario, history)?;
     let told = history.len().min(notes.len()).min(MOST_ITEMS);
     let ends = ends_of(alloc, &auditor, scenario)?;
     let counts = counts_of(alloc, &history[..told], scenario.parts().nexuses.len())?;
     let unit = auditor.unit().copy();
     Ok(Telling {
-        illegal,
+        illegal: departures.first().map(|it| it.place),
         notes,
-        instead,
+        departures,
         unit,
         ends,
         counts,
     })
 }
 
-// What stands beside each item that may come, and what would have been in place of the first that may not.
+// What stands beside each item, and what would have been in place of each that may not come. Behind such a one it goes on as if
+// the answer had been right.
 fn follow(
     alloc: Global,
     auditor: &mut Auditor,
     scenario: &Scenario,
     history: &[Item],
-) -> Result<(Vec<Note>, Option<Instead>), AllocError>
+) -> Result<(Vec<Note>, Vec<Departure>), AllocError>
     requires { ActFor (scenario_of scenario.now) (world_at auditor.old []) }
     ensures { ActFor (scenario_of scenario.now) (world_at auditor.new []) }
 {
     let mut notes = Vec::new(alloc);
+    let mut departures = Vec::new(alloc);
     for (index, item) in history.iter().enumerate() {
         let note = note_on(auditor, scenario, item);
-        if !auditor.admits(scenario, &history[..index], item) {
-            return Ok((notes, Some(instead_of(auditor, scenario, item))));
+        if auditor.admits(scenario, &history[..index], item) {
+            notes.push(note)?;
+        } else {
+            notes.push(Note {
+                departure: Some(departures.len()),
+                ..Note::at(note.line)
+            })?;
+            departures.push(Departure {
+                place: index + 1,
+                instead: instead_of(auditor, scenario, item),
+            })?;
+            go_past(alloc, auditor, scenario, item)?;
         }
-        notes.push(note)?;
     }
-    Ok((notes, None))
+    Ok((notes, departures))
+}
+
+// Goes past an item that is taken as it is.
+fn go_past(
+    alloc: Global,
+    auditor: &mut Auditor,
+    scenario: &Scenario,
+    item: &Item,
+) -> Result<(), AllocError>
+    requires { ActFor (scenario_of scenario.now) (world_at auditor.old []) }
+    ensures { ActFor (scenario_of scenario.now) (world_at auditor.new []) }
+{
+    let mut unit = auditor.unit().copy();
+    match item {
+        Item::Sent(entry) if is_declared(scenario, entry.host) => {
+            adopt(alloc, &mut unit, entry)?;
+            auditor.pass(scenario, entry);
+        }
+        Item::Sent(_) => {}
+        Item::Reset => unit.reset(),
+    }
+    auditor.set_unit(scenario, unit);
+    Ok(())
 }
 
 fn note_on(auditor: &Auditor, scenario: &Scenario, item: &Item) -> Note
@@ -130,10 +206,7 @@ fn note_on(auditor: &Auditor, scenario: &Scenario, item: &Item) -> Note
         Item::Sent(entry) if is_declared(scenario, entry.host) => {
             note_on_entry(auditor, scenario, entry)
         }
-        Item::Sent(_) | Item::Reset => Note {
-            line: None,
-            is_out_of_role: false,
-        },
+        Item::Sent(_) | Item::Reset => Note::at(None),
     }
 }
 
@@ -150,7 +223,6 @@ fn note_on_entry(auditor: &Auditor, scenario: &Scenario, entry: &Entry) -> Note
 {
     match auditor.next_command(entry.host) {
         Some((line, command)) if entry.wire == encode(&command) => Note {
-            line: Some(line),
             is_out_of_role: entry.reply.status == Status::Good
                 && !permits(
                     &nexus_in(scenario, entry.host).role,
@@ -158,11 +230,9 @@ fn note_on_entry(auditor: &Auditor, scenario: &Scenario, entry: &Entry) -> Note
                     entry.host,
                     &command,
                 ),
+            ..Note::at(Some(line))
         },
-        Some(_) | None => Note {
-            line: None,
-            is_out_of_role: false,
-        },
+        Some(_) | None => Note::at(None),
     }
 }
 
@@ -205,6 +275,9 @@ fn instead_of_reply(auditor: &Auditor, scenario: &Scenario, entry: &Entry) -> In
 {
     let nexus = nexus_in(scenario, entry.host);
     match entry.reply.status {
+        Status::Busy | Status::TaskFull if entry.reply != refused(entry.reply.status) => {
+            return Instead::Bare;
+        }
         Status::Busy => return Instead::Refusals(nexus.busy),
         Status::TaskFull => return Instead::Refusals(nexus.full),
         Status::Good | Status::CheckCondition | Status::Conflict => {}
