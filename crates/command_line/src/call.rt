@@ -26,6 +26,12 @@ pub enum Call<'a> {
         steps: &'a [&'a str],
     },
 
+    /// The same of the turns that the text at this path lists.
+    ReplayListed {
+        path: &'a str,
+        list: &'a str,
+    },
+
     /// The trace of a run with a thread for each host and guest.
     Run {
         path: &'a str,
@@ -57,10 +63,7 @@ pub fn call_of<'a>(matches: &'a ArgMatches<'_>) -> Option<Call<'a>> {
         "witness" => Call::Witness {
             path: arguments.get_str("FILE")?,
         },
-        "replay" => Call::Replay {
-            path: arguments.get_str("FILE")?,
-            steps: arguments.get_strs("STEP")?,
-        },
+        "replay" => replay_of(arguments)?,
         "run" => Call::Run {
             path: arguments.get_str("FILE")?,
         },
@@ -75,4 +78,16 @@ pub fn call_of<'a>(matches: &'a ArgMatches<'_>) -> Option<Call<'a>> {
         _ => return None,
     };
     Some(call)
+}
+
+// Of a replay the steps stand behind the path, or in a text.
+fn replay_of<'a>(arguments: &'a ArgMatches<'_>) -> Option<Call<'a>> {
+    let path = arguments.get_str("FILE")?;
+    Some(match arguments.get_str("steps") {
+        Some(list) => Call::ReplayListed { path, list },
+        None => Call::Replay {
+            path,
+            steps: arguments.get_strs("STEP")?,
+        },
+    })
 }

@@ -26,7 +26,7 @@ const EXPLAIN_CALL: &str =
     "For example: fence explain missing-arm.fence, or fence explain missing-arm.fence missing-arm.1.trace";
 
 /// What the words of a command line say: the subcommand `check` with one `FILE` or more, `outline`, `witness` or `run` with its
-/// `FILE`, `replay` with its `FILE` and one `STEP` or more, `audit` with its `FILE` and its `TRACE`, or `explain` with its `FILE`
+/// `FILE`, `replay` with its `FILE` and one `STEP` or more, or the path of a list of them behind `--steps`, `audit` with its `FILE` and its `TRACE`, or `explain` with its `FILE`
 /// and at most one `TRACE`.
 pub fn matches_of<'a>(alloc: Global, words: &'a [String]) -> Result<ArgMatches<'a>, Error> {
     command(alloc)?.try_get_matches_from(words)
@@ -87,12 +87,20 @@ fn replay<'a>(alloc: Global) -> Result<Command<'a>, AllocError> {
         )
         .action(ArgAction::Append)
         .num_args(1..)
-        .required(true);
+        .required_unless_present("steps")?;
+    let list = Arg::new(alloc, "steps")
+        .long("steps")
+        .value_name("PATH")
+        .help(
+            "A text that lists the steps, one or more a line, with a # before a comment; - is standard input, where FILE is none",
+        )
+        .conflicts_with("STEP")?;
     Command::new(alloc, "replay")
         .about("Lets hosts and guests take their turns in this order, and writes the trace")
         .after_help(REPLAY_CALL)
         .arg(file(alloc))?
-        .arg(steps)
+        .arg(steps)?
+        .arg(list)
 }
 
 fn run<'a>(alloc: Global) -> Result<Command<'a>, AllocError> {
@@ -117,7 +125,7 @@ fn audit<'a>(alloc: Global) -> Result<Command<'a>, AllocError> {
 
 fn explain<'a>(alloc: Global) -> Result<Command<'a>, AllocError> {
     let trace = Arg::new(alloc, "TRACE").help(
-        "A trace of it, which is explained in place of the verdict; - is standard input, where FILE is none",
+        "A trace or a witness of it, which is explained in place of the verdict; - is standard input, where FILE is none",
     );
     Command::new(alloc, "explain")
         .about(

@@ -3,15 +3,20 @@
 #![tactic(auto)]
 
 mod explaining;
+mod listed;
 mod several;
 mod source;
 mod told;
 mod traced;
+mod whole;
+mod witnessed;
 
 use crate::explaining::do_explain;
+use crate::listed::{read_list, steps_in};
 use crate::several::{Line, put_labelled, worse};
-use crate::source::{Source, apart, open, open_file};
+use crate::source::{Peeked, Source, apart, open, open_beside, open_file};
 use crate::traced::do_explain_trace;
+use crate::witnessed::{FIRST_LINE, do_explain_witness};
 use clap::error::ErrorKind;
 use command_line::{Call, call_of, matches_of};
 use pr_commands::{
@@ -71,6 +76,7 @@ fn run_call<T: Threads + Wait + Sync>(
         Call::Outline { path } => outline(rt, path),
         Call::Witness { path } => witness(rt, path),
         Call::Replay { path, steps } => replay(rt, path, steps),
+        Call::ReplayListed { path, list } => replay_listed(rt, path, list),
         Call::Run { path } => run_threads(rt, threads, path),
         Call::Audit { path, trace } => audit(rt, path, trace),
         Call::Explain { path, trace } => explain(rt, path, trace),
@@ -132,6 +138,22 @@ fn replay(rt: &HostRuntime, path: &str, steps: &[&str]) -> Result<ExitStatus, Fa
     ))
 }
 
+// `-` is standard input for one of the two, and the name of a file where that is taken. Both are opened before either is read.
+fn replay_listed(rt: &HostRuntime, path: &str, list: &str) -> Result<ExitStatus, Fault> {
+    let mut text = open(rt, path)?;
+    let mut list = open_beside(rt, &text, list)?;
+    apart(&text, &list)?;
+    let list = read_list(rt.alloc(), &mut list)?;
+    let steps = steps_in(rt.alloc(), &list)?;
+    Ok(do_replay(
+        rt.alloc(),
+        &steps,
+        &mut text,
+        &mut rt.stdout(),
+        &mut rt.stderr(),
+    ))
+}
+
 fn run_threads<T: Threads + Wait + Sync>(
     rt: &HostRuntime,
     threads: &T,
@@ -171,18 +193,16 @@ fn explain(rt: &HostRuntime, path: &str, trace: Option<&str>) -> Result<ExitStat
 
 // `-` is standard input for one of the two, and the name of a file where that is taken. Both are opened before either is read.
 fn explain_trace(rt: &HostRuntime, text: &mut Source, path: &str) -> Result<ExitStatus, Fault> {
-    let mut trace = match text {
-        Source::Input(_) => open_file(rt, path)?,
-        Source::File(_) => open(rt, path)?,
-    };
+    let mut trace = open_beside(rt, text, path)?;
     apart(text, &trace)?;
-    Ok(do_explain_trace(
-        rt.alloc(),
-        text,
-        &mut trace,
-        &mut rt.stdout(),
-        &mut rt.stderr(),
-    ))
+    // (by its first line it may be a witness)
+    let mut trace = Peeked::new(&mut trace);
+    let (mut output, mut errors) = (rt.stdout(), rt.stderr());
+    Ok(if trace.begins_with(FIRST_LINE) {
+        do_explain_witness(rt.alloc(), text, &mut trace, &mut output, &mut errors)
+    } else {
+        do_explain_trace(rt.alloc(), text, &mut trace, &mut output, &mut errors)
+    })
 }
 
 // Prints clap's text for a command line that it refuses; help and the version come here too.

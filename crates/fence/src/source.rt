@@ -1,5 +1,6 @@
 //! Where the texts of a command come from: files, and standard input.
 
+use arrayvec::ArrayVec;
 use pr_commands::{Fault, file_fault};
 use pr_report::TraceError;
 use pr_text::ReadError;
@@ -7,6 +8,9 @@ use std::fs::File;
 use std::io::{Read, Stdin};
 use std::os::fd::{AsRawFd, RawFd};
 use std::{fs, io};
+
+/// As many bytes of a text are looked at: the first line of a witness.
+const MOST_FRONT: usize = 16;
 
 /// A text that can be read.
 #[derive(Drop)]
@@ -27,6 +31,50 @@ impl Read for Source {
     }
 }
 
+/// A text of which the first bytes were looked at. They are read again.
+#[derive(Drop)]
+pub struct Peeked<'a> {
+    front: ArrayVec<u8, MOST_FRONT>,
+    rest: &'a mut Source,
+}
+
+impl<'a> Peeked<'a> {
+    /// The text, of which at most so many bytes are looked at. What can't be read is read again.
+    pub fn new(source: &'a mut Source) -> Self {
+        let mut front = ArrayVec::new();
+        for _ in 0..MOST_FRONT {
+            let mut byte = [0];
+            match source.read(&mut byte) {
+                Ok(1) => {
+                    let _ = front.try_push(byte[0]);
+                }
+                Ok(_) | Err(_) => break,
+            }
+        }
+        Peeked {
+            front,
+            rest: source,
+        }
+    }
+
+    /// Whether it begins with these bytes.
+    pub fn begins_with(&self, bytes: &[u8]) -> bool {
+        self.front.as_slice() == bytes
+    }
+}
+
+impl Read for Peeked<'_> {
+    fn read(&mut self, buf: &mut [u8]) -> io::Result<usize> {
+        if self.front.is_empty() {
+            return self.rest.read(buf);
+        }
+        let count = buf.len().min(self.front.len());
+        buf[..count].copy_from_slice(&self.front[..count]);
+        self.front.drain(..count);
+        Ok(count)
+    }
+}
+
 /// The text at this path, where `-` is standard input.
 pub fn open(rt: &HostRuntime, path: &str) -> Result<Source, Fault> {
     if path == "-" {
@@ -40,6 +88,14 @@ pub fn open_file(rt: &HostRuntime, path: &str) -> Result<Source, Fault> {
     match fs::open(rt, path) {
         Ok(file) => Ok(Source::File(file)),
         Err(error) => Err(file_fault(&error)),
+    }
+}
+
+/// The text at this path beside another one, where `-` is standard input if that isn't taken.
+pub fn open_beside(rt: &HostRuntime, other: &Source, path: &str) -> Result<Source, Fault> {
+    match other {
+        Source::Input(_) => open_file(rt, path),
+        Source::File(_) => open(rt, path),
     }
 }
 
