@@ -3,14 +3,12 @@
 ghost use Rattle.std.specs.Prelude.{◌≡◌, ◌<◌};
 
 use crate::reply::generation_in;
+use pr_attention::Attention;
 use pr_cdb::{Command, Reply, Request, Status, Wire, decode, encode};
 use pr_registry::Registry;
 use pr_roles::Entry;
 use pr_unit::Unit;
 use std::alloc::{AllocError, Global};
-
-/// How many attentions may be pending for one nexus.
-const MOST_PENDING: u8 = 4;
 
 /// The sense key of an attention.
 const UNIT_ATTENTION: u8 = 6;
@@ -25,18 +23,17 @@ pub fn adopt(alloc: Global, unit: &mut Unit, entry: &Entry) -> Result<(), AllocE
     ensures { unit.new.registry.hosts ≡ unit.old.registry.hosts }
 {
     match entry.reply.status {
-        Status::Good => return adopt_good(alloc, unit, entry),
-        Status::CheckCondition => adopt_report(unit, entry.host, &entry.reply),
-        Status::Conflict | Status::Busy | Status::TaskFull => {}
+        Status::Good => adopt_good(alloc, unit, entry),
+        Status::CheckCondition => adopt_report(alloc, unit, entry.host, &entry.reply),
+        Status::Conflict | Status::Busy | Status::TaskFull => Ok(()),
     }
-    Ok(())
 }
 
 fn adopt_good(alloc: Global, unit: &mut Unit, entry: &Entry) -> Result<(), AllocError>
     requires { entry.now.host < unit.old.registry.hosts }
     ensures { unit.new.registry.hosts ≡ unit.old.registry.hosts }
 {
-    for _ in 0..MOST_PENDING {
+    for _ in Attention::ALL {
         report(unit, entry.host);
     }
     perform(alloc, unit, entry.host, &entry.wire)?;
@@ -60,25 +57,41 @@ fn generation_told(entry: &Entry) -> Option<u32> {
 fn set_generation(alloc: Global, unit: &mut Unit, generation: u32) -> Result<(), AllocError>
     ensures { unit.new.registry.hosts ≡ unit.old.registry.hosts }
 {
-    if let Some(other) = with_generation(alloc, unit, generation)?
+    let other = rebuilt(alloc, unit, generation, None)?;
+    replace(unit, other);
+    Ok(())
+}
+
+// The other unit stands in its place, which has as many nexuses.
+fn replace(unit: &mut Unit, other: Option<Unit>)
+    ensures { unit.new.registry.hosts ≡ unit.old.registry.hosts }
+{
+    if let Some(other) = other
         && other.registry().hosts() == unit.registry().hosts()
     {
         *unit = other;
     }
-    Ok(())
 }
 
-fn with_generation(
+// The same unit with this generation, and without this attention of a nexus.
+fn rebuilt(
     alloc: Global,
     unit: &Unit,
     generation: u32,
+    told: Option<(u8, Attention)>,
 ) -> Result<Option<Unit>, AllocError> {
     let registry = unit.registry();
     let mut keys = Vec::new(alloc);
     let mut pendings = Vec::new(alloc);
     for host in 0..registry.hosts() {
+        let mut pending = unit.pending(host).copy();
+        if let Some((owner, attention)) = told
+            && owner == host
+        {
+            pending.remove(attention);
+        }
         keys.push(registry.key(host))?;
-        pendings.push(unit.pending(host).copy())?;
+        pendings.push(pending)?;
     }
     let registry = Registry::from_parts(&keys, registry.held(), generation);
     Ok(registry.and_then(|registry| Unit::with(registry, &pendings)))
@@ -92,15 +105,27 @@ fn report(unit: &mut Unit, host: u8)
     let _ = ends_good(unit, host, &encode(&Command::TestUnitReady));
 }
 
-// Reports the attention that the reply tells, where it is pending, and else the first.
-fn adopt_report(unit: &mut Unit, host: u8, reply: &Reply)
+// The attention that the reply tells is no longer pending, or else the one that the model would have reported.
+fn adopt_report(alloc: Global, unit: &mut Unit, host: u8, reply: &Reply) -> Result<(), AllocError>
     requires { host < unit.old.registry.hosts }
     ensures { unit.new.registry.hosts ≡ unit.old.registry.hosts }
 {
-    let is_attention = reply.sense.is_some_and(|sense| sense.key == UNIT_ATTENTION);
-    if is_attention && !follows(unit, host, reply) {
-        report(unit, host);
+    let Some(sense) = reply.sense else {
+        return Ok(());
+    };
+    if sense.key != UNIT_ATTENTION {
+        return Ok(());
     }
+    let told = Attention::ALL.into_iter().find(|it| it.sense() == sense);
+    match told {
+        Some(attention) if unit.pending(host).has(attention) => {
+            let generation = unit.registry().generation();
+            let other = rebuilt(alloc, unit, generation, Some((host, attention)))?;
+            replace(unit, other);
+        }
+        Some(_) | None => report(unit, host),
+    }
+    Ok(())
 }
 
 // Executes the command. Where the model refuses it, and would not if the sender had the key that the command names, it has that key.
@@ -161,13 +186,4 @@ fn ends_good(unit: &mut Unit, host: u8, wire: &Wire) -> bool
         Ok(reply) => reply.status == Status::Good,
         Err(_) => false,
     }
-}
-
-// Whether the unit may report just this, of what is pending for the host. Then it has.
-#[tactic(auto, using(crate::proofs::lemmas::Adoptions::hosts_followed))]
-fn follows(unit: &mut Unit, host: u8, reply: &Reply) -> bool
-    requires { host < unit.old.registry.hosts }
-    ensures { unit.new.registry.hosts ≡ unit.old.registry.hosts }
-{
-    unit.follow(host, &encode(&Command::TestUnitReady), reply)
 }
