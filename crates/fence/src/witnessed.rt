@@ -1,5 +1,8 @@
 //! `fence explain FILE WITNESS`: a run that `fence witness` found, in words.
 
+ghost use Rattle.std.specs.Prelude.{◌≡◌, true, length};
+ghost use Rattle.pr_roles.specs.Scenarios.{scenario_of};
+
 use crate::told::read_and_tell;
 use crate::whole::{Unread, read_whole};
 use pr_attention::Pending;
@@ -52,7 +55,7 @@ fn explain_run<R: Read, T: Read, W: Write>(
     let scenario = scenario?;
     let text = text_of(alloc, witness)?;
     let run = run_of(alloc, &scenario, &text)?;
-    if usize::from(run.start.registry().hosts()) != scenario.parts().nexuses.len() {
+    if !is_of(&scenario, &run.start) {
         return Err(syntax(1));
     }
     let telling = telling_from(alloc, &scenario, &run.history, run.start.copy())?;
@@ -60,6 +63,14 @@ fn explain_run<R: Read, T: Read, W: Write>(
     put_start(writer, &scenario.parts().nexuses, &run.start)?;
     write_telling(writer, &scenario, &run.history, &telling)?;
     Ok(telling.illegal.is_some())
+}
+
+// Whether the unit has a nexus for each that the scenario declares.
+fn is_of(scenario: &Scenario, unit: &Unit) -> bool
+    ensures { result ≡ true
+        → unit.now.registry.hosts ≡ length (scenario_of scenario.now).nexuses }
+{
+    usize::from(unit.registry().hosts()) == scenario.parts().nexuses.len()
 }
 
 // The text of a witness, whole.
