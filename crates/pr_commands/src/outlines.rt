@@ -10,7 +10,7 @@ use crate::ending::ended;
 use crate::fault::{ExitStatus, Fault};
 use pr_report::write_outlines;
 use pr_text::read;
-use pr_verify::tables;
+use pr_verify::judge;
 use std::alloc::Global;
 use std::io::{Read, Write};
 
@@ -41,7 +41,7 @@ fn outline_text<R: Read, W: Write>(
     ensures limited { LosesUpTo (MOST_BYTES + 1) (R.remaining reader.old) (R.remaining reader.new) }
 {
     let scenario = read(alloc, reader)?;
-    let tables = tables(alloc, &scenario)?;
-    write_outlines(writer, &scenario, &tables)?;
+    let judged = judge(alloc, &scenario)?;
+    write_outlines(writer, &scenario, &judged.tables)?;
     Ok(false)
 }

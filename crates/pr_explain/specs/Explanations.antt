@@ -13,16 +13,16 @@ use Rattle.pr_explain.specs.declared.plan.Explanation.TheVariants.{Accepted, Ref
 use Rattle.pr_explain.specs.Costs.{cost_of}
 
 abbrev pub scenario_in : Explanation → Parts
-scenario_in (Accepted verified costs lints) = verified
+scenario_in (Accepted scenario costs lints) = scenario
 scenario_in (Refused scenario refusal tables finding senders) = scenario
 
 abbrev pub is_refusal : Explanation → Bool
-is_refusal (Accepted verified costs lints) = false
+is_refusal (Accepted scenario costs lints) = false
 is_refusal (Refused scenario refusal tables finding senders) = true
 
 -- Of one that is accepted: it is safe, and these are the costs of its scripts. Of one that is refused: this is the first reason
 -- that the least sound outlines show, the tables are of these outlines, and a run that was found breaks what safety says.
 abbrev pub Holds : Scenario → Explanation → Type 0
-Holds s (Accepted verified costs lints) = IsSafe s × (costs.items ≡ map (λ n. cost_of n.task) s.nexuses)
+Holds s (Accepted scenario costs lints) = IsSafe s × (costs.items ≡ map (λ n. cost_of n.task) s.nexuses)
 Holds s (Refused scenario refusal tables finding senders) =
     IsFirstReason s refusal × AreTables s (map table_of tables.items) × IsFound s finding

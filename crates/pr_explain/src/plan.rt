@@ -6,7 +6,7 @@ use crate::costing::Cost;
 use crate::lint::Lint;
 use crate::senders::SentBy;
 use pr_roles::Scenario;
-use pr_verify::{Refusal, Table, Verified};
+use pr_verify::{Refusal, Table};
 use pr_witness::Finding;
 
 /// What is said of a scenario.
@@ -14,7 +14,7 @@ use pr_witness::Finding;
 pub enum Explanation {
     /// It is accepted.
     Accepted {
-        verified: Verified,
+        scenario: Scenario,
         /// Of each nexus that has a script, what that costs.
         costs: Vec<Option<Cost>>,
         lints: Vec<Lint>,

@@ -1,9 +1,12 @@
 //! The plan of what is said of a scenario's verdict.
 
-ghost use Rattle.std.specs.Prelude.{◌≡◌, ◌≢◌, ◌↔◌, false, true, IfOk, OnOk};
+ghost use Rattle.std.specs.Prelude.{◌≡◌, ◌↔◌, false, true, map, IfOk};
+ghost use Rattle.pr_roles.specs.Safety.{IsSafe};
 ghost use Rattle.pr_roles.specs.Scenarios.{scenario_of};
 ghost use Rattle.pr_verify.specs.Outlines.{HaveOutlines};
-ghost use Rattle.pr_verify.specs.Verdicts.{IsVerdict};
+ghost use Rattle.pr_verify.specs.Rooms.{table_of};
+ghost use Rattle.pr_verify.specs.Tables.{AreTables};
+ghost use Rattle.pr_verify.specs.Verdicts.{IsFirstReason};
 ghost use Rattle.pr_explain.specs.Explanations.{Holds, is_refusal, scenario_in};
 
 use crate::costing::costs;
@@ -11,7 +14,7 @@ use crate::linting::lints;
 use crate::plan::Explanation;
 use crate::senders::{SentBy, senders};
 use pr_roles::Scenario;
-use pr_verify::{Refusal, Verified, tables, verify};
+use pr_verify::{Refusal, Table, judge};
 use pr_witness::{Finding, USUAL_BOUNDS, search};
 use std::alloc::{AllocError, Global};
 
@@ -23,41 +26,44 @@ pub fn explanation(alloc: Global, scenario: Scenario) -> Result<Explanation, All
         ↔ HaveOutlines (scenario_of scenario)) }
     ensures holds { IfOk result (Holds (scenario_of scenario)) }
 {
-    match verify(alloc, scenario) {
-        Ok(verified) => accepted(alloc, verified),
-        Err(against) => refused(alloc, against.scenario, against.refusal),
+    let judged = judge(alloc, &scenario)?;
+    match judged.refusal {
+        None => accepted(alloc, scenario, &judged.tables),
+        Some(refusal) => refused(alloc, scenario, refusal, judged.tables),
     }
 }
 
-fn accepted(alloc: Global, verified: Verified) -> Result<Explanation, AllocError>
-    ensures scenario { IfOk result (λ e. scenario_in e ≡ verified) }
+fn accepted(
+    alloc: Global,
+    scenario: Scenario,
+    tables: &[Table],
+) -> Result<Explanation, AllocError>
+    requires { IsSafe (scenario_of scenario) }
+    ensures scenario { IfOk result (λ e. scenario_in e ≡ scenario) }
     ensures accepted { IfOk result (λ e. is_refusal e ≡ false) }
-    ensures holds { IfOk result (Holds (scenario_of verified)) }
+    ensures holds { IfOk result (Holds (scenario_of scenario)) }
 {
-    let scenario = verified.scenario();
     let costs = costs(alloc, &scenario.parts().nexuses)?;
-    let tables = tables(alloc, scenario)?;
-    let lints = lints(alloc, scenario, &tables)?;
+    let lints = lints(alloc, &scenario, tables)?;
     Ok(Explanation::Accepted {
-        verified,
+        scenario,
         costs,
         lints,
     })
 }
 
-// That memory was refused is no reason.
-#[tactic(auto, using(crate::proofs::lemmas::Reasons::first_reason))]
-fn refused(alloc: Global, scenario: Scenario, refusal: Refusal) -> Result<Explanation, AllocError>
-    requires { IsVerdict (scenario_of scenario) refusal }
+fn refused(
+    alloc: Global,
+    scenario: Scenario,
+    refusal: Refusal,
+    tables: Vec<Table>,
+) -> Result<Explanation, AllocError>
+    requires reason { IsFirstReason (scenario_of scenario) refusal }
+    requires tables { AreTables (scenario_of scenario) (map table_of tables.items) }
     ensures scenario { IfOk result (λ e. scenario_in e ≡ scenario) }
     ensures refused { IfOk result (λ e. is_refusal e ≡ true) }
-    ensures reason { OnOk result (refusal ≢ Refusal.Memory) }
     ensures holds { IfOk result (Holds (scenario_of scenario)) }
 {
-    if refusal == Refusal::Memory {
-        return Err(AllocError);
-    }
-    let tables = tables(alloc, &scenario)?;
     let finding = search(alloc, &scenario, &refusal, USUAL_BOUNDS)?;
     let senders = senders_of(alloc, &scenario, &finding)?;
     Ok(Explanation::Refused {

@@ -14,10 +14,10 @@ pub fn write_explanation<W: Write>(
 ) -> Result<(), WriteFault> {
     match explanation {
         Explanation::Accepted {
-            verified,
+            scenario,
             costs,
             lints,
-        } => put_accepted(writer, lines, verified.scenario(), costs, lints),
+        } => put_accepted(writer, lines, scenario, costs, lints),
         Explanation::Refused {
             scenario,
             refusal,

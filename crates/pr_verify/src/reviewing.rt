@@ -1,12 +1,13 @@
 //! The first view of an outline that is not sound, and the first send that does not fit.
 
-ghost use Rattle.std.specs.Prelude.{◌≡◌, length, option_map, IfOk};
+ghost use Rattle.std.specs.Prelude.{◌≡◌, ◌↔◌, length, option_map, IfOk, IsTrue};
 ghost use Rattle.std.specs.List.{All};
 ghost use Rattle.pr_script.specs.Trees.{script_of};
 ghost use Rattle.pr_roles.specs.Starts.{CanStart};
+ghost use Rattle.pr_verify.specs.Outlines.{KeepsToRole};
 ghost use Rattle.pr_verify.specs.Refusals.{class_number};
-ghost use Rattle.pr_verify.specs.inside.Asked.{AreMade, IsAnswered, IsFirstMisfitIn, IsFirstUnsound, IsMisfitIn, scenario_in};
-ghost use Rattle.pr_verify.specs.inside.Listing.{lines_in, AreSendsOf};
+ghost use Rattle.pr_verify.specs.inside.Asked.{AreMade, IsAnswered, IsFirstMisfitIn, IsFirstUnsound, IsMisfitIn, outline_in, scenario_in};
+ghost use Rattle.pr_verify.specs.inside.Listing.{lines_in, place_of, AreSendsOf};
 ghost use Rattle.pr_verify.specs.inside.Lacking.{CanCompare, IsFirstWithoutAfter, lines_after};
 ghost use Rattle.pr_verify.specs.inside.Reviewing.{IsFirstUnarmed, earlier, earlier_from};
 
@@ -61,7 +62,7 @@ pub(crate) fn first_misfit<S: ViewSet>(
     for (i, spot) in asked.spots.iter().enumerate() {
         let answer = asked.answer(alloc, &mut known, i)?;
         let outcomes = &known[answer].outcomes;
-        if let Some(refusal) = misfit(asked, &asked.outline.views[i].1, spot, outcomes) {
+        if let (_, Some(refusal)) = review(asked, &asked.outline.views[i].1, spot, outcomes) {
             return Ok(Some(refusal));
         }
     }
@@ -96,24 +97,28 @@ fn lines_after(landing: Landing, next: &[Vec<u32>]) -> Option<&[u32]>
     }
 }
 
-// How the send does not fit, if it does not: its role comes first, then the first class of replies without an arm.
-fn misfit<S: ViewSet>(
+/// Whether the role permits the command of the send wherever it ends GOOD in the view; and how the send does not fit, if it does
+/// not: its role comes first, then the first class of replies without an arm.
+pub(crate) fn review<S: ViewSet>(
     asked: &Questions<ViewOf<S>>,
     view: &ViewOf<S>,
     spot: &Spot,
     outcomes: &[(Landing, ViewOf<S>)],
-) -> Option<Refusal>
+) -> (bool, Option<Refusal>)
     requires { IsAnswered asked.now view.now spot.now outcomes.now }
-    ensures { IsMisfitIn asked.now spot.now result }
+    ensures permitted { IsTrue result.0 ↔ KeepsToRole (scenario_in asked.now) (outline_in asked.now) (place_of spot.now) }
+    ensures misfit { IsMisfitIn asked.now spot.now result.1 }
 {
     let host = asked.outline.host;
     let line = spot.line;
     let role = &nexus_in(asked.scenario, host).role;
     if !permitted(view, role, host, &spot.command) {
-        return Some(Refusal::OutOfRole { host, line });
+        return (false, Some(Refusal::OutOfRole { host, line }));
     }
-    let class = first_unarmed(outcomes, 0)?;
-    Some(Refusal::NoArm { host, line, class })
+    match first_unarmed(outcomes, 0) {
+        Some(class) => (true, Some(Refusal::NoArm { host, line, class })),
+        None => (true, None),
+    }
 }
 
 /// Of the classes of replies without an arm that have this number or a greater one, the first.

@@ -1,54 +1,45 @@
-//! The tables of a scenario's hosts.
+//! The table of a host.
 
 ghost use Rattle.std.specs.Prelude.{◌≡◌, ◌<◌, ◌↔◌, ℕ, length, map, IsTrue, IfOk};
 ghost use Rattle.std.specs.List.{AllPairs, AllZip, Contains};
 ghost use Rattle.pr_domain.specs.declared.landing.Class.{Class};
 ghost use Rattle.pr_domain.specs.declared.landing.Landing.TheVariants.{Arm};
 ghost use Rattle.pr_roles.specs.Scenarios.{scenario_of, task};
+ghost use Rattle.pr_verify.specs.Outlines.{OnScripted};
 ghost use Rattle.pr_verify.specs.Refusals.{class_number};
-ghost use Rattle.pr_verify.specs.Rooms.{AreMadeFor, IsMadeFor, IsScripted, table_of};
-ghost use Rattle.pr_verify.specs.Tables.{AreTables};
-ghost use Rattle.pr_verify.specs.inside.Asked.{AreMade, IsAnswered, IsRowIn};
+ghost use Rattle.pr_verify.specs.Rooms.{IsMadeFor, IsScripted};
+ghost use Rattle.pr_verify.specs.inside.Asked.{AreMade, IsAnswered, IsFirstMisfitIn, IsMisfitIn, IsRowIn};
 ghost use Rattle.pr_verify.specs.inside.Reviewing.{IsUnarmed};
-ghost use Rattle.pr_verify.specs.inside.Tabling.{IsInRange, IsTableFor};
+ghost use Rattle.pr_verify.specs.inside.Tabling.{IsCosted, IsInRange, IsJudgement, IsTableFor};
 
 use crate::answers::Questions;
-use crate::inferring::{has_script, infer, script_in};
+use crate::checking::check_cost;
+use crate::inferring::{infer, script_in};
 use crate::nexus::nexus_in;
 use crate::places::{Spot, spots};
-use crate::reviewing::{first_unarmed, number_of};
+use crate::refusal::Refusal;
+use crate::reviewing::{first_unarmed, number_of, review};
 use crate::table::{Row, Table};
 use pr_domain::{Class, Landing};
-use pr_permission::permitted;
-use pr_roles::Scenario;
+use pr_roles::{Scenario, Task};
 use pr_sets::ViewSet;
 use pr_views::ViewOf;
 use std::alloc::{AllocError, Global};
 
-/// For each host that has a script, in order: its least sound outline, and what its command may come to at each send.
-pub fn tables(alloc: Global, scenario: &Scenario) -> Result<Vec<Table>, AllocError>
-    ensures tables { IfOk result (λ tables. AreTables (scenario_of scenario.now)
-        (map table_of tables.items)) }
-    ensures made { IfOk result (λ tables. AreMadeFor (scenario_of scenario.now) tables.items) }
-{
-    let mut tables = Vec::new(alloc);
-    let hosts = scenario.parts().nexuses.len() as u8;
-    for host in 0..hosts {
-        if has_script(scenario, host) {
-            tables.push(table_of_host(alloc, scenario, host)?)?;
-        }
-    }
-    Ok(tables)
-}
-
-// The table of a host that has a script.
-fn table_of_host(alloc: Global, scenario: &Scenario, host: u8) -> Result<Table, AllocError>
+/// The table of a host that has a script, and the first reason against the host, if there is one.
+pub(crate) fn judge_host(
+    alloc: Global,
+    scenario: &Scenario,
+    host: u8,
+) -> Result<(Table, Option<Refusal>), AllocError>
     requires { IsScripted (task (scenario_of scenario.now) host) }
-    ensures host { IfOk result (λ t. t.outline.host ≡ host) }
-    ensures table { IfOk result (IsTableFor
-        (scenario_of scenario.now) host) }
-    ensures made { IfOk result (λ t. IsMadeFor
-        (scenario_of scenario.now) t.outline) }
+    ensures host { IfOk result (λ r. r.0.outline.host ≡ host) }
+    ensures table { IfOk result (λ r. IsTableFor
+        (scenario_of scenario.now) host r.0) }
+    ensures made { IfOk result (λ r. IsMadeFor
+        (scenario_of scenario.now) r.0.outline) }
+    ensures judgement { IfOk result (λ r. IsJudgement
+        (scenario_of scenario.now) host r.1) }
 {
     let script = script_in(scenario, host);
     let spots = spots(alloc, script)?;
@@ -58,51 +49,71 @@ fn table_of_host(alloc: Global, scenario: &Scenario, host: u8) -> Result<Table, 
         outline: &outline,
         spots: &spots,
     };
-    let rows = rows(alloc, &questions)?;
-    Ok(Table { outline, rows })
+    let (rows, misfit) = rows(alloc, &questions)?;
+    let reason = over_budget(scenario, host).or(misfit);
+    Ok((Table { outline, rows }, reason))
 }
 
-// A row for each send.
-fn rows<S: ViewSet>(alloc: Global, asked: &Questions<ViewOf<S>>) -> Result<Vec<Row>, AllocError>
+// That the script of a host costs more than its budget, if it does.
+fn over_budget(scenario: &Scenario, host: u8) -> Option<Refusal>
+    requires { IsScripted (task (scenario_of scenario.now) host) }
+    ensures { OnScripted (task (scenario_of scenario.now) host)
+        (λ script budget. IsCosted (scenario_of scenario.now) host script budget result) }
+{
+    match &nexus_in(scenario, host).task {
+        Task::Scripted { script, budget } => check_cost(script, *budget, host).err(),
+        Task::Planned(_) => unreachable!(),
+    }
+}
+
+// A row for each send; and how the first send does not fit that does not, if there is one.
+fn rows<S: ViewSet>(
+    alloc: Global,
+    asked: &Questions<ViewOf<S>>,
+) -> Result<(Vec<Row>, Option<Refusal>), AllocError>
     requires { AreMade asked.now }
-    ensures { IfOk result (λ rows. AllZip (IsRowIn asked.now) asked.now.spots.now
-        rows.items) }
+    ensures rows { IfOk result (λ r. AllZip (IsRowIn asked.now) asked.now.spots.now
+        r.0.items) }
+    ensures misfit { IfOk result (λ r. IsFirstMisfitIn asked.now r.1) }
 {
     let mut known = Vec::new(alloc);
     let mut rows = Vec::new(alloc);
+    let mut first = None;
     for (i, spot) in asked.spots.iter().enumerate() {
         let answer = asked.answer(alloc, &mut known, i)?;
         let outcomes = &known[answer].outcomes;
-        let row = row_of_spot(alloc, asked, &asked.outline.views[i].1, spot, outcomes)?;
+        let view = &asked.outline.views[i].1;
+        let (row, misfit) = row_of_spot(alloc, asked, view, spot, outcomes)?;
         rows.push(row)?;
+        first = first.or(misfit);
     }
-    Ok(rows)
+    Ok((rows, first))
 }
 
-// The row of one send: the view at its line, and how its command may end there.
+// The row of one send: the view at its line, and how its command may end there; and how the send does not fit, if it does not.
 fn row_of_spot<S: ViewSet>(
     alloc: Global,
     asked: &Questions<ViewOf<S>>,
     view: &ViewOf<S>,
     spot: &Spot,
     outcomes: &[(Landing, ViewOf<S>)],
-) -> Result<Row, AllocError>
+) -> Result<(Row, Option<Refusal>), AllocError>
     requires { IsAnswered asked.now view.now spot.now outcomes.now }
-    ensures { IfOk result (IsRowIn asked.now spot.now) }
+    ensures row { IfOk result (λ r. IsRowIn asked.now spot.now r.0) }
+    ensures misfit { IfOk result (λ r. IsMisfitIn asked.now spot.now r.1) }
 {
-    let host = asked.outline.host;
-    let role = &nexus_in(asked.scenario, host).role;
-    let permitted = permitted(view, role, host, &spot.command);
+    let (permitted, misfit) = review(asked, view, spot, outcomes);
     let tests = Vec::from_slice(alloc, &spot.tests)?;
     let arms = arms_taken(alloc, outcomes, spot.tests.len())?;
     let unarmed = unarmed(alloc, outcomes)?;
-    Ok(Row {
+    let row = Row {
         command: spot.command,
         tests,
         permitted,
         arms,
         unarmed,
-    })
+    };
+    Ok((row, misfit))
 }
 
 // The arms, of so many, in which some outcome lands.

@@ -1,12 +1,16 @@
--- Rows of a table while they are made.
-use Rattle.std.specs.Prelude.{ℕ, ◌<◌}
+-- Rows of a table while they are made, and what is found of its host.
+use Rattle.std.specs.Prelude.{ℕ, ◌<◌, ◌≤◌, Option, Some, None}
+use Rattle.pr_script.specs.Costs.{cost_of_all}
+use Rattle.pr_script.specs.Scripts.{Stmts}
 use Rattle.pr_roles.specs.Scenarios.{Scenario, task}
 use Rattle.pr_domain.specs.declared.landing.Class.{Class}
 use Rattle.pr_domain.specs.declared.landing.Class.TheVariants.{Good, Conflict, Busy, Full, Sense}
+use Rattle.pr_verify.specs.declared.refusal.Refusal.{Refusal}
 use Rattle.pr_verify.specs.declared.table.Table.{Table}
-use Rattle.pr_verify.specs.Outlines.{OnScripted}
+use Rattle.pr_verify.specs.Outlines.{OnScripted, IsCarried, HostSendsFit}
 use Rattle.pr_verify.specs.Rooms.{table_of}
 use Rattle.pr_verify.specs.Tables.{IsTable}
+use Rattle.pr_verify.specs.Verdicts.{IsReasonAgainst, HasReason, IsFirstReason}
 
 -- the fields of its sense are in the ranges of their types
 abbrev pub IsInRange : Class → Type 0
@@ -19,3 +23,20 @@ IsInRange (Sense sense) = (sense.key < 256) × (sense.asc < 256) × (sense.ascq 
 -- the table of a host, if it has a script
 abbrev pub IsTableFor : Scenario → ℕ → Table → Type 0
 IsTableFor s h t = OnScripted (task s h) (λ script budget. IsTable s script (table_of t))
+
+-- ---- what is found of a host
+
+-- the script is within the budget, or this is the reason against the host
+abbrev pub IsCosted : Scenario → ℕ → Stmts → ℕ → Option Refusal → Type 0
+IsCosted s h script budget None = cost_of_all script ≤ budget
+IsCosted s h script budget (Some refusal) = IsReasonAgainst s h script budget refusal
+
+-- the host has an outline that is sound and fits, if it has a script, and what it sends is in range; or this is a reason against it
+abbrev pub IsJudgement : Scenario → ℕ → Option Refusal → Type 0
+IsJudgement s h None = IsCarried s h × HostSendsFit s h
+IsJudgement s h (Some refusal) = HasReason s h refusal
+
+-- so is it of each host before this one, or this is the first reason against one
+abbrev pub IsJudgementBefore : Scenario → ℕ → Option Refusal → Type 0
+IsJudgementBefore s n None = ((h : ℕ) → h < n → IsCarried s h) × ((h : ℕ) → h < n → HostSendsFit s h)
+IsJudgementBefore s n (Some refusal) = IsFirstReason s refusal

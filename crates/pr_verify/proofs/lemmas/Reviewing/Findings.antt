@@ -1,10 +1,11 @@
 -- What was found of an outline's views and of a script's sends, put together.
-use Rattle.pr_verify.proofs.Common.{◌≡◌, ℕ, ◌<◌, ◌≤◌, true, ◌⊎◌, List, map, length, slice_index_or, Some, None, All, Contains, Option, sym, refl, ap, ◌∙◌, subst, inl, inr, arith, map-map, cost_of_all, rise_above, script_fits, Stmts, Scenario, View, Among, Outline, IsOfScenario, StartsAt, ComesTo, IsLeftAt, IsAsked, at_start, by_itself, by_others, IsListed, IsSound, KeepsToRole, IsFitting, Place, places_of, first_difference, BreaksRole, FitsAt, IsRefusal, Spot, Refusal, HasAll, Lacks, IsFirstLacking, least, EachOf, place_of, IsPlaceWritten, IsLackingOfSends}
+use Rattle.pr_verify.proofs.Common.{◌≡◌, ℕ, ◌+◌, ◌<◌, ◌≤◌, true, ◌⊎◌, List, map, length, slice_index_or, Some, None, All, Contains, Option, sym, refl, ap, ◌∙◌, subst, inl, inr, arith, map-map, cost_of_all, rise_above, script_fits, Stmts, Scenario, View, Among, Outline, IsOfScenario, StartsAt, ComesTo, IsLeftAt, IsAsked, at_start, by_itself, by_others, IsListed, IsSound, KeepsToRole, IsFitting, Place, places_of, first_difference, BreaksRole, FitsAt, IsRefusal, Spot, Refusal, HasAll, Lacks, IsFirstLacking, least, EachOf, place_of, IsPlaceWritten, IsLackingOfSends}
+use Rattle.std.specs.Option.{option_or}
 use Rattle.std.proofs.lemmas.List.Elements.{Contains-get_or}
 use Rattle.pr_verify.specs.declared.refusal.Refusal.TheVariants.{NoArm, OutOfRole}
 use Rattle.pr_verify.specs.Refusals.{DiffersAt, LacksFirst, LacksArmFirst, IsUnfitAt}
-use Rattle.pr_verify.specs.inside.Reviewing.{IsReason, HasMisfit, IsFirstMisfit}
-use Rattle.pr_verify.proofs.lemmas.Least.FirstLines.{least_as, least_either, each_listed, listed_among}
+use Rattle.pr_verify.specs.inside.Reviewing.{IsReason, IsMisfit, HasMisfit, IsFirstMisfit}
+use Rattle.pr_verify.proofs.lemmas.Least.FirstLines.{least_as, least_either, each_more, each_listed, listed_among}
 use Rattle.pr_verify.proofs.lemmas.Rooms.MappedLists.{mapped, unmapped}
 use Rattle.pr_verify.proofs.lemmas.Outlines.Lookups.{entries}
 use Rattle.pr_verify.proofs.lemmas.Refusals.Differences.{differing_none}
@@ -135,3 +136,14 @@ module _ (s : Scenario) (script : Stmts) (o : Outline) (spots : List Spot) (plac
       at (NoArm host line class) is reason = (reason.0, unfit (λ p. KeepsToRole s o p × LacksArmFirst s o p class) line reason.1 (reason.2, reason.3))
       at (OutOfRole host line) is reason = (reason.0, unfit (BreaksRole s o) line reason.1 reason.2)
       at _ is reason = absurd reason
+
+-- ---- one send more
+
+module _ (s : Scenario) (o : Outline) (spots : List Spot) where
+  pub misfit_more : (n : ℕ) (x : Spot) (first here : Option Refusal) → n < length spots → x ≡ slice_index_or spots n x → IsFirstMisfit s o n spots first → IsMisfit s o (place_of x) here → IsFirstMisfit s o (n + 1) spots (option_or first here)
+  misfit_more n x (Some refusal) here small read one is =
+      let below = one.below in
+      let less : one.index < n + 1 = omega arith in
+      record { spot = one.spot; index = one.index; below = less; there = one.there; reason = one.reason; first = one.first }
+  misfit_more n x None None small read all fits = each_more (λ y. FitsAt s o (place_of y)) spots n x small read all fits
+  misfit_more n x None (Some refusal) small read all reason = record { spot = x; index = n; below = omega arith; there = sym read; reason = reason; first = all }

@@ -1,5 +1,5 @@
 -- Whether a place fits, by the outcomes of its command.
-use Rattle.pr_verify.proofs.Common.{◌≡◌, ℕ, ◌≤◌, true, false, List, [], map, length, is_some, IsTrue, slice_get, Some, None, Contains, option_and_then, sym, refl, ap, ◌∙◌, subst, arith, position-Some, slice_get-get_or, Reply, Plain, Step, UnitState, matches, Answered, refusals_of, command_permitted, role, Scenario, view_of, View, Shows, ViewOf, IsLanding, Outcome, IsExpected, AreOutcomes, IsPermittedIn, IsRefusedIn, Class, Landing, NoArm, Arm, Outline, view_at, ShowsIn, IsShownAt, KeepsToRole, Place, follows, BreaksRole, class_number, IsUnarmed}
+use Rattle.pr_verify.proofs.Common.{◌≡◌, ℕ, ◌≤◌, true, false, ◌↔◌, List, [], map, length, is_some, IsTrue, slice_get, Some, None, Contains, option_and_then, sym, refl, ap, ◌∙◌, subst, arith, position-Some, slice_get-get_or, Reply, Plain, Step, UnitState, matches, Answered, refusals_of, command_permitted, role, Scenario, view_of, View, Shows, ViewOf, IsLanding, Outcome, IsExpected, AreOutcomes, IsPermittedIn, IsRefusedIn, Class, Landing, NoArm, Arm, Outline, view_at, ShowsIn, IsShownAt, KeepsToRole, Place, follows, BreaksRole, class_number, IsUnarmed}
 use Rattle.pr_script.specs.declared.script.Test.TheVariants as test
 use Rattle.pr_sets.specs.declared.view_set.ViewSet.{Ghosts as ViewSet}
 use Rattle.pr_regions.specs.Readings.{first_test}
@@ -49,6 +49,19 @@ module _ (s : Scenario) (o : Outline) (p : Place) (v : View) (here : IsHere o p 
     good = refused.good;
     refused = subst (λ h. command_permitted (role s o.host) refused.from.registry h p.command ≡ false) here.own refused.refused;
   }
+
+  -- so it tells whether the role permits it
+  pub kept_is : IsPermittedIn v (role s o.host) p.command → IsTrue true ↔ KeepsToRole s o p
+  kept_is permitted = (λ is. keeps_role permitted, λ keeps. refl)
+
+  pub broken_is : IsRefusedIn v (role s o.host) p.command → IsTrue false ↔ KeepsToRole s o p
+  broken_is refused = (
+    λ is. let bad : false ≡ true = is in cc,
+    λ keeps.
+        let breaks = breaks_role refused in
+        let is = keeps breaks.from breaks.reply breaks.after breaks.shown breaks.step breaks.good in
+        let bad : true ≡ false = sym is ∙ breaks.refused in cc,
+  )
 
   -- ---- the arms
 

@@ -150,23 +150,12 @@ module _ (s : Scenario) (o : Outline) (p : Place) (v : View) (here : IsHere o p 
   small_arm : (n : ℕ) → TakesArm s o p n → n < length p.tests
   small_arm n takes = (position-Some (λ t. matches t takes.reply) p.tests n test.Good takes.taken).0
 
-  permitted_is : (b : Bool) → (IsTrue b → IsPermittedIn v (role s o.host) p.command) → (b ≡ false → IsRefusedIn v (role s o.host) p.command) → IsTrue b ↔ KeepsToRole s o p
-  permitted_is true keep break = (λ is. keeps_role s o p v here (keep refl), λ keeps. refl)
-  permitted_is false keep break = (
-    λ is. let bad : false ≡ true = is in cc,
-    λ keeps.
-        let breaks = breaks_role s o p v here (break refl) in
-        let is = keeps breaks.from breaks.reply breaks.after breaks.shown breaks.step breaks.good in
-        let bad : true ≡ false = sym is ∙ breaks.refused in cc,
-  )
-
-  pub row_is : (r : Row) → r.command ≡ p.command → r.tests ≡ p.tests → (IsTrue r.permitted → IsPermittedIn v (role s o.host) p.command) → (r.permitted ≡ false → IsRefusedIn v (role s o.host) p.command)
-      → AreBelow (λ n. Contains (map (λ x. x.0) xs) (Arm n)) (length p.tests) r.arms → AllPairs (λ m n. m < n) r.arms → ((class : Class) → Contains r.unarmed class ↔ IsUnarmed (length xs) xs class)
+  pub row_is : (r : Row) → r.command ≡ p.command → r.tests ≡ p.tests → IsTrue r.permitted ↔ KeepsToRole s o p → AreBelow (λ n. Contains (map (λ x. x.0) xs) (Arm n)) (length p.tests) r.arms → AllPairs (λ m n. m < n) r.arms → ((class : Class) → Contains r.unarmed class ↔ IsUnarmed (length xs) xs class)
       → AllPairs (λ c d. class_number c < class_number d) r.unarmed → IsRow s o p r
-  row_is r command tests keep break arms arms_rise unarmed unarmed_rise = record {
+  row_is r command tests permitted arms arms_rise unarmed unarmed_rise = record {
     command = command;
     tests = tests;
-    permitted = permitted_is r.permitted keep break;
+    permitted = permitted;
     arms = λ n. (λ there. takes_arm n ((arms n).0 there).1, λ takes. (arms n).1 (small_arm n takes, arm_listed n takes));
     arms_rise = arms_rise;
     unarmed = λ class. (λ there. lacks_arm s o p v here own xs are class ((unarmed class).0 there), λ lacks. (unarmed class).1 (lacking_listed s o p v here own xs are class lacks));

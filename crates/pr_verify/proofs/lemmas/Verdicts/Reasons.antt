@@ -48,7 +48,7 @@ reasons_are_final s h script budget _ reason one = reason
 
 -- ---- of a scenario
 
-first_is_final : (s : Scenario) (refusal : Refusal) → IsFirstReason s refusal → HaveOutlines s → ⊥
+pub first_is_final : (s : Scenario) (refusal : Refusal) → IsFirstReason s refusal → HaveOutlines s → ⊥
 first_is_final s refusal first have =
     let one = first.reason in
     reasons_are_final s first.host one.script one.budget refusal one.reason

@@ -1,9 +1,21 @@
-use Rattle.pr_verify.proofs.Common.{◌≡◌, ◌+◌, length, take, sym, ap, ◌∙◌, subst, arith, rules, AllZip, scenario_of, outline_of, row_of, IsRow, Spot, place_of}
+use Rattle.pr_verify.proofs.Common.{◌≡◌, ◌+◌, [], length, take, sym, ap, ◌∙◌, subst, arith, rules, AllZip, All-nil, scenario_of, FitsAt, outline_of, row_of, IsRow, Spot, IsAnswerTo, AreAnswersTo, place_of}
 use Rattle.std.proofs.lemmas.List.{take_all}
 use Rattle.pr_verify.specs.declared.table.Row.{Row}
+use Rattle.pr_verify.specs.inside.Reviewing.{IsFirstMisfit}
+use Rattle.pr_verify.proofs.lemmas.Least.FirstLines.{each_none}
+use Rattle.pr_verify.proofs.lemmas.Reviewing.Findings.{misfit_more}
 use Rattle.pr_verify.proofs.lemmas.Known.Questions.{has_view, answer_within, answered_here}
 use Rattle.pr_verify.proofs.lemmas.Tabling.Rows.{zip_more}
 use Rattle.pr_verify.proofs.tabling.rows.Goals as goal
+
+pub loop-i-init : goal.loop-i-init
+loop-i-init g c =
+    let q = c.args.asked.now in
+    record {
+      rows = subst (AllZip (λ (p : Spot) (r : Row). IsRow (scenario_of q.scenario.now) (outline_of q.outline.now) (place_of p) (row_of r)) []) (sym c.new-rows.ensures.items) tt;
+      misfit = each_none (λ (p : Spot). FitsAt (scenario_of q.scenario.now) (outline_of q.outline.now) (place_of p)) q.spots.now;
+      known = subst (AreAnswersTo q) (sym c.new-known.ensures.items) (All-nil (IsAnswerTo q));
+    }
 
 pub answer-requires : goal.answer-requires
 answer-requires g c =
@@ -38,15 +50,25 @@ loop-i-preserved g c =
     let n = c.loop-i.i in
     record {
       rows = subst (AllZip R (take (n + 1) ys)) (sym c.in_ok-push.ensures.items)
-          (zip_more R ys c.loop-i.rows.items n c.spot-item.result c.in_ok-row.row c.loop-i-test.true c.spot-item.is c.loop-i.invariant.rows c.in_ok-row.ensures);
+          (zip_more R ys c.loop-i.rows.items n c.spot-item.result c.in_ok-row_of_spot.field-0.0 c.loop-i-test.true c.spot-item.is c.loop-i.invariant.rows c.in_ok-row_of_spot.ensures.row);
+      misfit = subst (IsFirstMisfit s o (n + 1) ys) (sym c.or-first.ensures)
+          (misfit_more s o ys n c.spot-item.result c.loop-i.first c.in_ok-row_of_spot.field-0.1 c.loop-i-test.true c.spot-item.is c.loop-i.invariant.misfit c.in_ok-row_of_spot.ensures.misfit);
       known = c.in_ok-answer.ensures.known;
     }
 
-pub returns : goal.returns
-returns g c =
+pub returns-clause-rows : goal.returns-clause-rows
+returns-clause-rows g c =
     let s = scenario_of c.args.asked.now.scenario.now in
     let o = outline_of c.args.asked.now.outline.now in
     let R = λ (p : Spot) (r : Row). IsRow s o (place_of p) (row_of r) in
     let ys = c.args.asked.now.spots.now in
     let whole : c.loop-i.i ≡ length ys = omega arith in
     subst (λ l. AllZip R l c.loop-i.rows.items) (ap (λ n. take n ys) whole ∙ take_all (length ys) ys (omega arith)) c.loop-i.invariant.rows
+
+pub returns-clause-misfit : goal.returns-clause-misfit
+returns-clause-misfit g c =
+    let s = scenario_of c.args.asked.now.scenario.now in
+    let o = outline_of c.args.asked.now.outline.now in
+    let ys = c.args.asked.now.spots.now in
+    let whole : c.loop-i.i ≡ length ys = omega arith in
+    subst (λ n. IsFirstMisfit s o n ys c.loop-i.first) whole c.loop-i.invariant.misfit
