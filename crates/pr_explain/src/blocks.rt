@@ -16,10 +16,7 @@ pub(crate) fn depth_behind(depth: u32, word: &[u8]) -> u32 {
 /// The index of the line that ends the send which begins at this index.
 pub(crate) fn end_of(lines: &[&[u8]], first: usize) -> usize {
     let mut depth = 0;
-    for (index, line) in lines.iter().enumerate() {
-        if index < first {
-            continue;
-        }
+    for (index, line) in lines.iter().enumerate().skip(first) {
         depth = depth_behind(depth, first_word(line));
         if depth == 0 {
             return index;
@@ -32,10 +29,7 @@ pub(crate) fn end_of(lines: &[&[u8]], first: usize) -> usize {
 pub(crate) fn arm_of(lines: &[&[u8]], first: usize, arm: usize) -> usize {
     let mut depth = 0;
     let mut left = arm;
-    for (index, line) in lines.iter().enumerate() {
-        if index < first {
-            continue;
-        }
+    for (index, line) in lines.iter().enumerate().skip(first) {
         let word = first_word(line);
         if depth == 1 && is(word, "on") {
             if left == 0 {
@@ -51,9 +45,9 @@ pub(crate) fn arm_of(lines: &[&[u8]], first: usize, arm: usize) -> usize {
 /// Whether the arm on the line with this index begins with a send without arms, which says that it is never sent.
 pub(crate) fn is_denied(lines: &[&[u8]], arm: usize) -> bool {
     let mut is_in_send = false;
-    for (index, line) in lines.iter().enumerate() {
+    for line in lines.iter().skip(arm.saturating_add(1)) {
         let word = first_word(line);
-        if index <= arm || word.is_empty() {
+        if word.is_empty() {
             continue;
         }
         if is_in_send {

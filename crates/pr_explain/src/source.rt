@@ -34,10 +34,36 @@ pub(crate) fn is(word: &[u8], text: &str) -> bool {
 
 // Whether the line begins with this word, and the name behind it.
 fn begins(line: &[u8], word: &[u8], name: &[u8]) -> bool {
-    match next_word(line) {
-        Some((first, rest)) => first == word && first_word(rest) == name,
+    match behind(line, word) {
+        Some(rest) => behind(rest, name).is_some(),
         None => false,
     }
+}
+
+// What stands behind the word, if the line begins with it. They are compared byte by byte, up to the first that differs: most lines
+// begin with another word, and there are many.
+fn behind<'a>(line: &'a [u8], word: &[u8]) -> Option<&'a [u8]> {
+    let mut rest = without_blanks(line);
+    for byte in word {
+        let (first, others) = rest.split_first()?;
+        if first != byte {
+            return None;
+        }
+        rest = others;
+    }
+    match rest.first() {
+        None | Some(b' ' | b'\t') => Some(rest),
+        Some(_) => None,
+    }
+}
+
+// The line from its first byte that is no blank.
+fn without_blanks(line: &[u8]) -> &[u8] {
+    let mut rest = line;
+    while let Some((b' ' | b'\t', others)) = rest.split_first() {
+        rest = others;
+    }
+    rest
 }
 
 /// Of the lines that begin with this word and this name, the index of the one with this number, from 0.

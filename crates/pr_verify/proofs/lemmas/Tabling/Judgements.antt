@@ -1,11 +1,13 @@
 -- What is found of a host, by its budget and its table; and of one host after another.
-use Rattle.pr_verify.proofs.Common.{◌≡◌, ℕ, ◌+◌, ◌<◌, true, false, List, map, length, Some, None, Option, refl, subst, arith, rise_above, Stmts, Task, Scripted, task, Scenario, IsSafe, IsLeastSound, Outline, HasOutline, OnScripted, HaveOutlines, SendsFit, Place, places_of, IsScripted, Refusal, Spot, place_of}
+use Rattle.pr_verify.proofs.Common.{◌≡◌, ℕ, ◌+◌, ◌<◌, ◌≤◌, true, false, List, map, length, IfErr, Some, None, Ok, Err, Option, Result, sym, refl, ap, ◌∙◌, subst, arith, cost_of_all, rise_above, Stmts, script_of, Task, Scripted, task, Scenario, IsSafe, IsLeastSound, Outline, HasOutline, OnScripted, HaveOutlines, SendsFit, Place, places_of, IsScripted, Refusal, Spot, place_of}
 use Rattle.std.specs.Option.{option_or, IfNone, IfSome}
+use Rattle.std.specs.Result.{OnOk, result_err}
 use Rattle.pr_roles.specs.Scenarios.{Planned}
+use Rattle.pr_script.specs.declared.script.Script.{Script}
 use Rattle.pr_verify.specs.Laws.{OutlinesMakeSafe}
 use Rattle.pr_verify.specs.Tables.{has_script}
 use Rattle.pr_verify.specs.Verdicts.{IsFirstReason}
-use Rattle.pr_verify.specs.inside.Reviewing.{IsReason, IsFirstMisfit}
+use Rattle.pr_verify.specs.inside.Reviewing.{IsReason, IsFirstMisfit, IsOver}
 use Rattle.pr_verify.specs.inside.Tabling.{IsCosted, IsJudgement, IsJudgementBefore}
 use Rattle.pr_verify.proofs.lemmas.Outlines.Checks.{has_outline, below_next}
 use Rattle.pr_verify.proofs.lemmas.Reviewing.Findings.{is_fitting, is_refusal}
@@ -22,6 +24,13 @@ unscripted : (t : Option Task) (P : Stmts → ℕ → Type 0) → has_script t �
 unscripted None P past = tt
 unscripted (Some (Scripted script budget)) P past = let bad : true ≡ false = past in cc
 unscripted (Some (Planned commands)) P past = tt
+
+-- what the check of the cost says
+pub costed : (s : Scenario) (h : ℕ) (script : Script) (budget : ℕ) (checked : Result (Unit {0}) Refusal) (over : Option Refusal) → over ≡ result_err checked → OnOk checked (cost_of_all (script_of script) ≤ budget) → IfErr checked (IsOver script budget h)
+    → IsCosted s h (script_of script) budget over
+costed s h script budget (Ok u) over same within past = subst (IsCosted s h (script_of script) budget) (sym same) within
+costed s h script budget (Err refusal) over same within past =
+    subst (IsCosted s h (script_of script) budget) (sym (same ∙ ap (λ r. Some r) past.1)) (refl, past.0, refl)
 
 -- what is found of a host: the budget comes first
 module _ (s : Scenario) (h : ℕ) (script : Stmts) (budget : ℕ) (is : task s h ≡ Some (Scripted script budget)) (o : Outline) (host : o.host ≡ h) (least : IsLeastSound s script o) (fields : SendsFit script) (spots : List Spot)

@@ -28,8 +28,8 @@ index-requires-in-loop-i g c =
     let there = has_view q c.loop-i.i c.loop-i-test.true in
     omega arith
 
-pub misfit-requires : goal.misfit-requires
-misfit-requires g c = (
+pub review-requires : goal.review-requires
+review-requires g c = (
   search rules,
   answered_here c.args.asked.now c.requires c.loop-i.i c.loop-i-test.true c.answer.new.known.items c.in_ok-answer.answer c.in_ok-answer.ensures.answer
       c.spot-item.result c.index-in-loop-i.result.now c.spot-item.is c.index-in-loop-i.ensures c.index.result.now c.index.ensures c.deref.result.now c.deref.ensures.value,
