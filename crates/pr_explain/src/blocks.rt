@@ -13,13 +13,18 @@ pub(crate) fn depth_behind(depth: u32, word: &[u8]) -> u32 {
     }
 }
 
+// The lines from this index on. What stands above is not looked at, since it is long where there are many sends.
+fn lines_from<'a, 'b>(lines: &'a [&'b [u8]], first: usize) -> &'a [&'b [u8]] {
+    lines.get(first..).unwrap_or(&[])
+}
+
 /// The index of the line that ends the send which begins at this index.
 pub(crate) fn end_of(lines: &[&[u8]], first: usize) -> usize {
     let mut depth = 0;
-    for (index, line) in lines.iter().enumerate().skip(first) {
+    for (place, line) in lines_from(lines, first).iter().enumerate() {
         depth = depth_behind(depth, first_word(line));
         if depth == 0 {
-            return index;
+            return first.saturating_add(place);
         }
     }
     first
@@ -29,11 +34,11 @@ pub(crate) fn end_of(lines: &[&[u8]], first: usize) -> usize {
 pub(crate) fn arm_of(lines: &[&[u8]], first: usize, arm: usize) -> usize {
     let mut depth = 0;
     let mut left = arm;
-    for (index, line) in lines.iter().enumerate().skip(first) {
+    for (place, line) in lines_from(lines, first).iter().enumerate() {
         let word = first_word(line);
         if depth == 1 && is(word, "on") {
             if left == 0 {
-                return index;
+                return first.saturating_add(place);
             }
             left -= 1;
         }
@@ -45,7 +50,7 @@ pub(crate) fn arm_of(lines: &[&[u8]], first: usize, arm: usize) -> usize {
 /// Whether the arm on the line with this index begins with a send without arms, which says that it is never sent.
 pub(crate) fn is_denied(lines: &[&[u8]], arm: usize) -> bool {
     let mut is_in_send = false;
-    for line in lines.iter().skip(arm.saturating_add(1)) {
+    for line in lines_from(lines, arm.saturating_add(1)) {
         let word = first_word(line);
         if word.is_empty() {
             continue;

@@ -33,11 +33,7 @@ pub fn explanation(alloc: Global, scenario: Scenario) -> Result<Explanation, All
     }
 }
 
-fn accepted(
-    alloc: Global,
-    scenario: Scenario,
-    tables: &[Table],
-) -> Result<Explanation, AllocError>
+fn accepted(alloc: Global, scenario: Scenario, tables: &[Table]) -> Result<Explanation, AllocError>
     requires { IsSafe (scenario_of scenario) }
     ensures scenario { IfOk result (λ e. scenario_in e ≡ scenario) }
     ensures accepted { IfOk result (λ e. is_refusal e ≡ false) }

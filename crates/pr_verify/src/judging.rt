@@ -30,8 +30,10 @@ pub struct Judged {
 pub fn judge(alloc: Global, scenario: &Scenario) -> Result<Judged, AllocError>
     ensures tables { IfOk result (λ judged. AreTables (scenario_of scenario.now)
         (map table_of judged.tables.items)) }
-    ensures made { IfOk result (λ judged. AreMadeFor (scenario_of scenario.now) judged.tables.items) }
-    ensures safe { IfOk result (λ judged. IfNone judged.refusal (IsSafe (scenario_of scenario.now))) }
+    ensures made { IfOk result (λ judged. AreMadeFor (scenario_of scenario.now)
+        judged.tables.items) }
+    ensures safe { IfOk result (λ judged. IfNone judged.refusal
+        (IsSafe (scenario_of scenario.now))) }
     ensures outlines { IfOk result (λ judged. IfNone judged.refusal
         (HaveOutlines (scenario_of scenario.now))) }
     ensures reason { IfOk result (λ judged. IfSome judged.refusal

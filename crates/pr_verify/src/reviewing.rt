@@ -106,7 +106,8 @@ pub(crate) fn review<S: ViewSet>(
     outcomes: &[(Landing, ViewOf<S>)],
 ) -> (bool, Option<Refusal>)
     requires { IsAnswered asked.now view.now spot.now outcomes.now }
-    ensures permitted { IsTrue result.0 ↔ KeepsToRole (scenario_in asked.now) (outline_in asked.now) (place_of spot.now) }
+    ensures permitted { IsTrue result.0 ↔ KeepsToRole (scenario_in asked.now) (outline_in asked.now)
+        (place_of spot.now) }
     ensures misfit { IsMisfitIn asked.now spot.now result.1 }
 {
     let host = asked.outline.host;

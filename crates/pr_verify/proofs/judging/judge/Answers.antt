@@ -21,14 +21,14 @@ loop-host-preserved c =
       | then-has_script+in_ok-judge_host+in_ok-push w ↦
           let t = w.in_ok-judge_host.ensures in (
             subst (AreBeforeHost s (n + 1)) (sym (ap (λ (v : Vec Table Global). v.items) w.tables-is ∙ w.in_ok-push.ensures.items))
-            (one_table s n ts _ c.loop-host.invariant.0 (sym c.has_script.ensures ∙ w.if-has_script.true) t.host t.table t.made),
+                (one_table s n ts _ c.loop-host.invariant.0 (sym c.has_script.ensures ∙ w.if-has_script.true) t.host t.table t.made),
             subst (IsJudgementBefore s (n + 1)) (sym (w.refusal-is ∙ w.or-refusal.ensures)) (judged_next s n c.loop-host.refusal _ c.loop-host.invariant.1 t.judgement),
           )
       | else-has_script w ↦ (
-          subst (AreBeforeHost s (n + 1)) (sym (ap (λ (v : Vec Table Global). v.items) w.tables-is))
-          (no_table s n ts c.loop-host.invariant.0 (sym c.has_script.ensures ∙ w.if-has_script.false)),
-          subst (IsJudgementBefore s (n + 1)) (sym w.refusal-is) (judged_past s n c.loop-host.refusal c.loop-host.invariant.1 (sym c.has_script.ensures ∙ w.if-has_script.false)),
-        )
+        subst (AreBeforeHost s (n + 1)) (sym (ap (λ (v : Vec Table Global). v.items) w.tables-is))
+            (no_table s n ts c.loop-host.invariant.0 (sym c.has_script.ensures ∙ w.if-has_script.false)),
+        subst (IsJudgementBefore s (n + 1)) (sym w.refusal-is) (judged_past s n c.loop-host.refusal c.loop-host.invariant.1 (sym c.has_script.ensures ∙ w.if-has_script.false)),
+      )
     ]
 
 pub returns-clause-tables : goal.returns-clause-tables
