@@ -62,7 +62,8 @@ pub(crate) fn first_misfit<S: ViewSet>(
     for (i, spot) in asked.spots.iter().enumerate() {
         let answer = asked.answer(alloc, &mut known, i)?;
         let outcomes = &known[answer].outcomes;
-        if let (_, Some(refusal)) = review(asked, &asked.outline.views[i].1, spot, outcomes) {
+        let (_, misfit) = review(asked, &asked.outline.views[i].1, spot, outcomes);
+        if let Some(refusal) = misfit {
             return Ok(Some(refusal));
         }
     }

@@ -3,7 +3,7 @@ use Rattle.pr_verify.specs.declared.table.Table.{Table}
 use Rattle.pr_verify.specs.inside.Tabling.{IsJudgementBefore}
 use Rattle.pr_verify.proofs.lemmas.Tabling.Judgements.{judged_next, judged_past, outlines_there, safe_all, reason_first, outlines_missing}
 use Rattle.pr_verify.proofs.lemmas.Tabling.Rows.{AreBeforeHost, one_table, no_table, are_tables}
-use Rattle.pr_verify.proofs.judging.judge.Goals.{then-has_script+in_ok-judge_host+in_ok-push, else-has_script}
+use Rattle.pr_verify.proofs.judging.judge.Goals.{then-has_script+in_ok-table+in_ok-push, else-has_script}
 use Rattle.pr_verify.proofs.judging.judge.Goals as goal
 
 pub overflow_cast-hosts : goal.overflow_cast-hosts
@@ -18,8 +18,8 @@ loop-host-preserved c =
     let ts = c.loop-host.tables.items in
     let n = c.loop-host.host in
     elim c.if-has_script.branch [
-      | then-has_script+in_ok-judge_host+in_ok-push w ↦
-          let t = w.in_ok-judge_host.ensures in (
+      | then-has_script+in_ok-table+in_ok-push w ↦
+          let t = w.in_ok-table.ensures in (
             subst (AreBeforeHost s (n + 1)) (sym (ap (λ (v : Vec Table Global). v.items) w.tables-is ∙ w.in_ok-push.ensures.items))
                 (one_table s n ts _ c.loop-host.invariant.0 (sym c.has_script.ensures ∙ w.if-has_script.true) t.host t.table t.made),
             subst (IsJudgementBefore s (n + 1)) (sym (w.refusal-is ∙ w.or-refusal.ensures)) (judged_next s n c.loop-host.refusal _ c.loop-host.invariant.1 t.judgement),

@@ -1,4 +1,5 @@
 use Rattle.pr_verify.proofs.Common.{◌≡◌, length, sym, subst, arith, rules, All-nil, scenario_of, FitsAt, outline_of, Spot, IsAnswerTo, AreAnswersTo, EachOf, place_of}
+use Rattle.pr_verify.specs.inside.Reviewing.{IsMisfit}
 use Rattle.pr_verify.proofs.lemmas.Least.FirstLines.{each_none, each_more}
 use Rattle.pr_verify.proofs.lemmas.Known.Questions.{has_view, answer_within, answered_here}
 use Rattle.pr_verify.proofs.reviewing.first_misfit.Goals as goal
@@ -28,8 +29,8 @@ index-requires-in-loop-i g c =
     let there = has_view q c.loop-i.i c.loop-i-test.true in
     omega arith
 
-pub review-requires : goal.review-requires
-review-requires g c = (
+pub review-misfit-requires : goal.review-misfit-requires
+review-misfit-requires g c = (
   search rules,
   answered_here c.args.asked.now c.requires c.loop-i.i c.loop-i-test.true c.answer.new.known.items c.in_ok-answer.answer c.in_ok-answer.ensures.answer
       c.spot-item.result c.index-in-loop-i.result.now c.spot-item.is c.index-in-loop-i.ensures c.index.result.now c.index.ensures c.deref.result.now c.deref.ensures.value,
@@ -41,7 +42,7 @@ returns-in-Some g c = record {
   index = c.loop-i.i;
   below = c.loop-i-test.true;
   there = sym c.spot-item.is;
-  reason = c.in-Some.ensures;
+  reason = subst (IsMisfit (scenario_of c.args.asked.now.scenario.now) (outline_of c.args.asked.now.outline.now) (place_of c.spot-item.result)) c.in-Some.is c.review-misfit.ensures.misfit;
   first = c.loop-i.invariant.fit;
 }
 
@@ -51,7 +52,7 @@ loop-i-preserved g c =
     let o = outline_of c.args.asked.now.outline.now in
     let y = c.spot-item.result in
     record {
-      fit = each_more (λ (p : Spot). FitsAt s o (place_of p)) c.args.asked.now.spots.now c.loop-i.i y c.loop-i-test.true c.spot-item.is c.loop-i.invariant.fit c.in_default.ensures;
+      fit = each_more (λ (p : Spot). FitsAt s o (place_of p)) c.args.asked.now.spots.now c.loop-i.i y c.loop-i-test.true c.spot-item.is c.loop-i.invariant.fit (subst (IsMisfit s o (place_of y)) c.in_default.is c.review-misfit.ensures.misfit);
       known = c.in_ok-answer.ensures.known;
     }
 

@@ -39,7 +39,7 @@ returns-clause-table c =
     let script = script_of c.script_in-script.result.now in
     let spots = c.in_ok-spots.spots.items in
     let o = outline_of c.in_ok-outline.outline in
-    let rows = c.in_ok-rows.field-0.0.items in
+    let rows = c.in_ok-rows.rows.items in
     let least = of_script t script (λ b. IsLeastSound s b o) c.requires c.script_in-script.ensures.script c.in_ok-outline.ensures.least in
     let all = subst (λ (xs : List Spot). AllZip (λ p r. IsRow s o (place_of p) (row_of r)) xs rows) c.deref.ensures.value c.in_ok-rows.ensures.rows in
     let is : IsTable s script (record { outline = o; rows = map row_of rows }) = record {
@@ -58,7 +58,7 @@ invariant_of-result c =
     (of_script (task s c.args.host) script (λ b. IsListed b (outline_of c.in_ok-outline.outline)) c.requires c.script_in-script.ensures.script c.in_ok-outline.ensures.listed) in
     let R = λ (p : Spot) (r : Row). IsRow (scenario_of c.args.scenario.now) o (place_of p) (row_of r) in
     record {
-      each = zip_length R c.deref.result.now c.in_ok-rows.field-0.0.items c.in_ok-rows.ensures.rows ∙ ap length c.deref.ensures.value
+      each = zip_length R c.deref.result.now c.in_ok-rows.rows.items c.in_ok-rows.ensures.rows ∙ ap length c.deref.ensures.value
           ∙ sym (as_many (λ (p : Spot). p.line) c.in_ok-outline.outline.views.items spots listed);
     }
 
@@ -70,7 +70,7 @@ returns-clause-judgement c =
     let own = script_of c.script_in-script.result.now in
     let spots = c.in_ok-spots.spots.items in
     let o = outline_of c.in_ok-outline.outline in
-    let misfit = c.in_ok-rows.field-0.1 in
+    let misfit = c.in_ok-rows.misfit in
     let one = scripted_is t c.requires in
     let script = one.0 in
     let budget = one.1 in

@@ -13,6 +13,6 @@ returns-clause-row g c =
     let xs = c.args.outcomes.now in
     let here : IsHere o p v = record { at = c.requires.here; own = refl } in
     let count : c.len.result ≡ length c.args.spot.now.tests.items = omega (arith, c.len.ensures, c.args.spot.now.tests.ok) in
-    row_is s o p v here own xs c.requires.outcomes _ refl (c.in_ok-tests.ensures.items ∙ c.deref.ensures.value) c.review.ensures.permitted
+    row_is s o p v here own xs c.requires.outcomes _ refl (c.in_ok-tests.ensures.items ∙ c.deref.ensures.value) c.review-permitted.ensures.permitted
     (subst (λ k. AreBelow (λ n. Contains (map (λ (x : Landing × ViewOf g.row.S.Denot g.S.ViewSet). x.0) xs) (Arm n)) k c.in_ok-arms.arms.items) count c.in_ok-arms.ensures.each)
     c.in_ok-arms.ensures.rise c.in_ok-unarmed.ensures.each c.in_ok-unarmed.ensures.rise

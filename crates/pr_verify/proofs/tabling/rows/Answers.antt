@@ -50,9 +50,9 @@ loop-i-preserved g c =
     let n = c.loop-i.i in
     record {
       rows = subst (AllZip R (take (n + 1) ys)) (sym c.in_ok-push.ensures.items)
-          (zip_more R ys c.loop-i.rows.items n c.spot-item.result c.in_ok-row_of_spot.field-0.0 c.loop-i-test.true c.spot-item.is c.loop-i.invariant.rows c.in_ok-row_of_spot.ensures.row);
+          (zip_more R ys c.loop-i.rows.items n c.spot-item.result c.in_ok-row.row c.loop-i-test.true c.spot-item.is c.loop-i.invariant.rows c.in_ok-row.ensures.row);
       misfit = subst (IsFirstMisfit s o (n + 1) ys) (sym c.or-first.ensures)
-          (misfit_more s o ys n c.spot-item.result c.loop-i.first c.in_ok-row_of_spot.field-0.1 c.loop-i-test.true c.spot-item.is c.loop-i.invariant.misfit c.in_ok-row_of_spot.ensures.misfit);
+          (misfit_more s o ys n c.spot-item.result c.loop-i.first c.in_ok-row.misfit c.loop-i-test.true c.spot-item.is c.loop-i.invariant.misfit c.in_ok-row.ensures.misfit);
       known = c.in_ok-answer.ensures.known;
     }
 
