@@ -1,4 +1,4 @@
-use Rattle.pr_verify.proofs.Common.{◌≡◌, ◌+◌, length, Option, Vec, Global, sym, ap, ◌∙◌, subst, arith, scenario_of, are_counted, Refusal}
+use Rattle.pr_verify.proofs.Common.{◌≡◌, ◌+◌, length, Vec, Global, sym, ap, ◌∙◌, subst, arith, scenario_of, are_counted}
 use Rattle.pr_verify.specs.declared.table.Table.{Table}
 use Rattle.pr_verify.specs.inside.Tabling.{IsJudgementBefore}
 use Rattle.pr_verify.proofs.lemmas.Tabling.Judgements.{judged_next, judged_past, outlines_there, safe_all, reason_first, outlines_missing}

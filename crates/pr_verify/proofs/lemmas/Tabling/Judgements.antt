@@ -1,5 +1,5 @@
 -- What is found of a host, by its budget and its table; and of one host after another.
-use Rattle.pr_verify.proofs.Common.{◌≡◌, ℕ, ◌+◌, ◌<◌, ◌≤◌, true, false, List, map, length, IfErr, Some, None, Ok, Err, Option, Result, sym, refl, ap, ◌∙◌, subst, arith, cost_of_all, rise_above, Stmts, script_of, Task, Scripted, task, Scenario, IsSafe, IsLeastSound, Outline, HasOutline, OnScripted, HaveOutlines, SendsFit, Place, places_of, IsScripted, Refusal, Spot, place_of}
+use Rattle.pr_verify.proofs.Common.{◌≡◌, ℕ, ◌+◌, ◌≤◌, true, false, List, map, length, IfErr, Some, None, Ok, Err, Option, Result, sym, refl, ap, ◌∙◌, subst, arith, cost_of_all, rise_above, Stmts, script_of, Task, Scripted, task, Scenario, IsSafe, IsLeastSound, Outline, HasOutline, OnScripted, HaveOutlines, SendsFit, places_of, IsScripted, Refusal, Spot, place_of}
 use Rattle.std.specs.Option.{option_or, IfNone, IfSome}
 use Rattle.std.specs.Result.{OnOk, result_err}
 use Rattle.pr_roles.specs.Scenarios.{Planned}

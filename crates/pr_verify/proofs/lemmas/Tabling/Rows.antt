@@ -1,5 +1,5 @@
 -- The row of a place, by the outcomes of its command.
-use Rattle.pr_verify.proofs.Common.{◌≡◌, ℕ, suc, ◌+◌, ◌<◌, ◌≤◌, Bool, true, false, ◌⊎◌, ◌↔◌, List, [], ◌∷◌, ◌++◌, map, length, get_or, take, IsTrue, slice_index_or, Some, None, All, Contains, Option, AllPairs, sym, refl, ap, ◌∙◌, subst, inl, inr, arith, AllZip, cases_lt, All-map, Contains-append_left, position-Some, map-map, Stmts, matches, refusals_of, Task, Scripted, role, task, Scenario, view_of, View, ViewOf, IsLanding, Outcome, IsExpected, AreOutcomes, IsPermittedIn, IsRefusedIn, Class, Landing, NoArm, Arm, Outline, IsListed, KeepsToRole, OnScripted, Place, places_of, class_number, outline_of, IsMadeFor, IsScripted, IsRow, OutlineBy, Spot, place_of, IsUnarmed, IsInRange}
+use Rattle.pr_verify.proofs.Common.{◌≡◌, ℕ, suc, ◌+◌, ◌<◌, ◌≤◌, Bool, true, false, ◌⊎◌, ◌↔◌, List, [], ◌∷◌, ◌++◌, map, length, get_or, take, IsTrue, slice_index_or, Some, None, All, Contains, Option, AllPairs, sym, refl, ap, ◌∙◌, subst, inl, inr, arith, AllZip, cases_lt, All-map, Contains-append_left, position-Some, map-map, Stmts, matches, refusals_of, Task, Scripted, task, Scenario, view_of, View, ViewOf, IsLanding, Outcome, IsExpected, AreOutcomes, Class, Landing, NoArm, Arm, Outline, IsListed, KeepsToRole, OnScripted, Place, places_of, class_number, outline_of, IsMadeFor, IsScripted, IsRow, OutlineBy, Spot, place_of, IsUnarmed, IsInRange}
 use Rattle.std.specs.List.{filter, range_with_len}
 use Rattle.std.proofs.lemmas.List.{map-append, map-id, take_more}
 use Rattle.std.proofs.lemmas.List.FromFn.{map-range_with_len_more}
@@ -12,7 +12,7 @@ use Rattle.pr_verify.specs.Rooms.{table_of}
 use Rattle.pr_verify.specs.Tables.{TakesArm, Row, Table, IsTable, AreTables, has_script}
 use Rattle.pr_verify.specs.declared.table.Table.{Table as KeptTable}
 use Rattle.pr_verify.proofs.lemmas.Reviewing.Findings.{place_lines}
-use Rattle.pr_verify.proofs.lemmas.Reviewing.FittingPlaces.{IsHere, shown_here, shown_there, answer_own, answer_host, keeps_role, breaks_role, lacks_arm, lacking_listed}
+use Rattle.pr_verify.proofs.lemmas.Reviewing.FittingPlaces.{IsHere, shown_here, shown_there, answer_own, answer_host, lacks_arm, lacking_listed}
 use Rattle.pr_verify.proofs.lemmas.Least.FirstLines.{among_back}
 use Rattle.pr_verify.proofs.lemmas.Rooms.MappedLists.{mapped, unmapped}
 

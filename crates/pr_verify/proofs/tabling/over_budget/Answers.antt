@@ -1,6 +1,4 @@
-use Rattle.pr_verify.proofs.Common.{◌≡◌, ◌≤◌, Ok, Err, Result, refl, script_of, task, scenario_of, cost_of_all, Refusal}
-use Rattle.std.specs.Result.{OnOk, IfErr, result_err}
-use Rattle.pr_verify.specs.inside.Reviewing.{IsOver}
+use Rattle.pr_verify.proofs.Common.{script_of, task, scenario_of}
 use Rattle.pr_verify.specs.inside.Tabling.{IsCosted}
 use Rattle.pr_verify.proofs.lemmas.Rooms.Nexuses.{scripted_there, scripted_task, scripted_fits, planned_not}
 use Rattle.pr_verify.proofs.lemmas.Rooms.Scripts.{on_script}
