@@ -1,9 +1,11 @@
 //! What is said of a scenario that is accepted.
 
+use crate::blocks::send_of;
 use crate::costing::Cost;
 use crate::lint::Lint;
-use crate::lint_words::{is_meant, put_lint};
-use crate::saying::{Part, name, number, say};
+use crate::lint_words::{is_meant, is_of_arm, is_spare, put_lint};
+use crate::saying::{Part, line_number, name, number, say};
+use crate::source::{first_word, is};
 use pr_output::{WriteFault, put};
 use pr_roles::Scenario;
 use std::io::Write;
@@ -17,7 +19,7 @@ From every start that the scenario declares, and whatever order its commands com
   and each command of a script that ends GOOD is one that its role permits at that moment.
 So it is where the disk does as docs/MODEL.md says, guests keep their roles, commands reach the disk
 one at a time, and BUSY, TASK SET FULL and resets come no more often than the scenario says. It does
-not say that a script comes to its end, that somebody gets the reservation, or that somebody is fenced.
+not say that a script comes to its end, or that somebody gets the reservation, or is fenced.
 
 ";
 
@@ -46,29 +48,86 @@ fn put_cost<W: Write>(writer: &mut W, host: &[u8], cost: Cost) -> Result<(), Wri
             name(host),
             Part::Text(b" sends at most"),
             number(cost.cost),
-            Part::Text(b" commands; its budget is"),
+            Part::Text(if cost.cost == 1 {
+                b" command; its budget is".as_slice()
+            } else {
+                b" commands; its budget is"
+            }),
             number(u64::from(cost.budget)),
             Part::Text(b".\n"),
         ],
     )
 }
 
+// What is worth a look, and above it the arms that only another disk may want.
 fn put_lints<W: Write>(
     writer: &mut W,
     lines: &[&[u8]],
     scenario: &Scenario,
     lints: &[Lint],
 ) -> Result<(), WriteFault> {
+    put_spare_arms(writer, lines, lints)?;
     let mut is_first = true;
     for lint in lints {
-        if is_meant(lines, *lint) {
+        if is_meant(lines, *lint) || is_spare(lines, *lint) {
             continue;
         }
         if is_first {
             put(writer, b"\nWorth a look, though it changes no verdict:\n")?;
             is_first = false;
         }
-        put_lint(writer, lines, &scenario.parts().nexuses, *lint)?;
+        put_lint(writer, lines, scenario.parts(), *lint)?;
     }
     Ok(())
+}
+
+// The arms that no reply takes and in which nothing is sent, all in one sentence.
+fn put_spare_arms<W: Write>(
+    writer: &mut W,
+    lines: &[&[u8]],
+    lints: &[Lint],
+) -> Result<(), WriteFault> {
+    let count = lints.iter().filter(|lint| is_spare(lines, **lint)).count();
+    if count == 0 {
+        return Ok(());
+    }
+    if count == 1 {
+        put(writer, b"\nThe arm on line")?;
+        put_lines_of_arms(writer, lines, lints)?;
+        return put(
+            writer,
+            b" is never taken on this disk; another disk may want it (docs/TARGETS.md).\n",
+        );
+    }
+    put(writer, b"\nArms on lines")?;
+    put_lines_of_arms(writer, lines, lints)?;
+    put(
+        writer,
+        b" are never taken on this disk; another disk may want them (docs/TARGETS.md).\n",
+    )
+}
+
+// The numbers of their lines, in order.
+fn put_lines_of_arms<W: Write>(
+    writer: &mut W,
+    lines: &[&[u8]],
+    lints: &[Lint],
+) -> Result<(), WriteFault> {
+    let mut is_first = true;
+    for (index, line) in lines.iter().enumerate() {
+        if is(first_word(line), "on") && is_spare_at(lines, lints, index) {
+            let comma = if is_first { b"".as_slice() } else { b"," };
+            say(writer, &[Part::Text(comma), line_number(index)])?;
+            is_first = false;
+        }
+    }
+    Ok(())
+}
+
+// Whether the arm on the line with this index is one of them.
+fn is_spare_at(lines: &[&[u8]], lints: &[Lint], index: usize) -> bool {
+    let Some((send, arm)) = send_of(lines, index) else {
+        return false;
+    };
+    lints.iter().any(|lint| is_of_arm(*lint, send, arm) && is_spare(lines, *lint))
 }

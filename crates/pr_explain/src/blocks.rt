@@ -1,6 +1,6 @@
 //! A send as it stands in a scenario's text: its line, its arms, and the `done` that ends it.
 
-use crate::source::{first_word, is};
+use crate::source::{first_word, is, line_of};
 
 /// How many sends and repeats are open behind a line that begins with this word, by those before it.
 pub(crate) fn depth_behind(depth: u32, word: &[u8]) -> u32 {
@@ -47,6 +47,27 @@ pub(crate) fn arm_of(lines: &[&[u8]], first: usize, arm: usize) -> usize {
     first
 }
 
+/// The index of the line of the send that has its arm on this line, and the number of the arm, from 0.
+pub(crate) fn send_of(lines: &[&[u8]], index: usize) -> Option<(usize, usize)> {
+    let mut depth = 0_u32;
+    let mut arm = 0_usize;
+    for step in 0..index {
+        let at = index.saturating_sub(step).saturating_sub(1);
+        let word = first_word(lines.get(at)?);
+        if is(word, "done") {
+            depth = depth.saturating_add(1);
+        } else if is(word, "send") || is(word, "repeat") {
+            if depth == 0 {
+                return Some((at, arm));
+            }
+            depth = depth.saturating_sub(1);
+        } else if depth == 0 && is(word, "on") {
+            arm = arm.saturating_add(1);
+        }
+    }
+    None
+}
+
 /// Whether the arm on the line with this index begins with a send without arms, which says that it is never sent.
 pub(crate) fn is_denied(lines: &[&[u8]], arm: usize) -> bool {
     let mut is_in_send = false;
@@ -62,6 +83,49 @@ pub(crate) fn is_denied(lines: &[&[u8]], arm: usize) -> bool {
             return false;
         }
         is_in_send = true;
+    }
+    false
+}
+
+/// How many statements the script of this name has.
+pub(crate) fn statements_in(lines: &[&[u8]], name: &[u8]) -> usize {
+    let Some(first) = line_of(lines, b"script", name, 0) else {
+        return 0;
+    };
+    let mut count = 0_usize;
+    for (index, line) in lines.iter().enumerate() {
+        let word = first_word(line);
+        if index > first && is(word, "end") {
+            return count;
+        }
+        if index > first && is_statement(word) {
+            count = count.saturating_add(1);
+        }
+    }
+    count
+}
+
+fn is_statement(word: &[u8]) -> bool {
+    ["send", "repeat", "break", "stop"]
+        .into_iter()
+        .any(|it| is(word, it))
+}
+
+/// Whether something is sent in the arm on the line with this index.
+pub(crate) fn sends_in_arm(lines: &[&[u8]], arm: usize) -> bool {
+    let mut depth = 1;
+    for (index, line) in lines.iter().enumerate() {
+        let word = first_word(line);
+        if index <= arm {
+            continue;
+        }
+        if is(word, "send") {
+            return true;
+        }
+        depth = depth_behind(depth, word);
+        if depth == 0 || (depth == 1 && is(word, "on")) {
+            return false;
+        }
     }
     false
 }

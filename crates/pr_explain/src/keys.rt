@@ -24,6 +24,26 @@ pub(crate) fn names_key(command: &Command, key: u64) -> bool {
     }
 }
 
+/// Whether the command needs a reservation key and has none: 0 is nobody's, so it always conflicts.
+pub(crate) fn is_keyless(command: &Command) -> bool {
+    match *command {
+        Command::Reserve { rk, .. }
+        | Command::Release { rk, .. }
+        | Command::Clear { rk }
+        | Command::Preempt { rk, .. }
+        | Command::PreemptAbort { rk, .. } => rk == 0,
+        Command::Register { .. }
+        | Command::RegisterIgnore { .. }
+        | Command::TestUnitReady
+        | Command::RequestSense
+        | Command::Read { .. }
+        | Command::Write { .. }
+        | Command::ReadKeys { .. }
+        | Command::ReadReservation { .. }
+        | Command::ReportCapabilities { .. } => false,
+    }
+}
+
 /// Whether the arm waits for this key.
 pub(crate) fn waits_for_key(test: Test, key: u64) -> bool {
     match test {

@@ -6,13 +6,17 @@
 
 mod accepting;
 mod advice;
+mod beginnings;
 mod blocks;
+mod cause;
 mod costing;
 mod covering;
 mod keys;
 mod lint;
 mod lint_words;
 mod linting;
+mod losses;
+mod out_of_role;
 mod plan;
 mod planning;
 mod possible;
@@ -21,6 +25,7 @@ mod running;
 mod saying;
 mod senders;
 mod source;
+mod stepping;
 mod writing;
 
 pub use costing::{Cost, costs};

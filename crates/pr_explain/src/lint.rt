@@ -30,4 +30,18 @@ pub enum Lint {
     NotUsed {
         key: u64,
     },
+    /// The command of the send on this line needs a reservation key and has none, so it always conflicts.
+    Keyless {
+        host: u8,
+        line: u32,
+    },
+    /// In no state from which the scenario starts does this alternative of its reservation stand.
+    NoSuchReservation {
+        alternative: usize,
+    },
+    /// In no such state is the nexus as this alternative of its start says.
+    NoSuchStart {
+        host: u8,
+        alternative: usize,
+    },
 }

@@ -1,11 +1,13 @@
 //! What is worth a look, in words.
 
-use crate::blocks::{arm_of, is_denied};
+use crate::blocks::{arm_of, is_denied, sends_in_arm};
 use crate::lint::Lint;
+use crate::running::changes;
 use crate::saying::{Part, line_number, name, say};
-use crate::source::{keys_line, line_of};
+use crate::source::{dropped_line, keys_line, line_of, reservation_line};
 use pr_output::{Token, WriteFault, put};
-use pr_roles::Nexus;
+use pr_registry::Held;
+use pr_roles::{Nexus, Parts};
 use pr_words::name_of;
 use std::io::Write;
 
@@ -13,7 +15,7 @@ use std::io::Write;
 pub(crate) fn put_lint<W: Write>(
     writer: &mut W,
     lines: &[&[u8]],
-    nexuses: &[Nexus],
+    parts: &Parts,
     lint: Lint,
 ) -> Result<(), WriteFault> {
     match lint {
@@ -26,7 +28,10 @@ pub(crate) fn put_lint<W: Write>(
         }
         Lint::NeverTaken { line, arm, .. } => {
             put_numbered(writer, lines, arm_of(lines, index_of(line), arm))?;
-            put(writer, b"    no reply takes this arm.\n")
+            put(
+                writer,
+                b"    no reply takes this arm; what it sends counts for the budget all the same.\n",
+            )
         }
         Lint::Covered {
             line,
@@ -34,8 +39,21 @@ pub(crate) fn put_lint<W: Write>(
             above,
             ..
         } => put_covered(writer, lines, index_of(line), arm, above),
-        Lint::NotNeeded { host, clause } => put_not_needed(writer, lines, nexuses, host, clause),
+        Lint::NotNeeded { host, clause } => {
+            put_not_needed(writer, lines, &parts.nexuses, host, clause)
+        }
         Lint::NotUsed { key } => put_not_used(writer, lines, key),
+        Lint::Keyless { line, .. } => {
+            put_numbered(writer, lines, index_of(line))?;
+            put(
+                writer,
+                b"    has no --param-rk, so its key is 0, with which nobody is registered: it never ends GOOD.\n",
+            )
+        }
+        Lint::NoSuchReservation { alternative } => {
+            put_no_reservation(writer, lines, parts, alternative)
+        }
+        Lint::NoSuchStart { host, .. } => put_no_start(writer, lines, &parts.nexuses, host),
     }
 }
 
@@ -46,7 +64,40 @@ pub(crate) fn is_meant(lines: &[&[u8]], lint: Lint) -> bool {
         Lint::NeverSent { .. }
         | Lint::Covered { .. }
         | Lint::NotNeeded { .. }
-        | Lint::NotUsed { .. } => false,
+        | Lint::NotUsed { .. }
+        | Lint::Keyless { .. }
+        | Lint::NoSuchReservation { .. }
+        | Lint::NoSuchStart { .. } => false,
+    }
+}
+
+/// Whether it is of an arm that no reply takes, and in which nothing is sent: that costs nothing, and another disk may want it.
+pub(crate) fn is_spare(lines: &[&[u8]], lint: Lint) -> bool {
+    match lint {
+        Lint::NeverTaken { line, arm, .. } => {
+            !sends_in_arm(lines, arm_of(lines, index_of(line), arm))
+        }
+        Lint::NeverSent { .. }
+        | Lint::Covered { .. }
+        | Lint::NotNeeded { .. }
+        | Lint::NotUsed { .. }
+        | Lint::Keyless { .. }
+        | Lint::NoSuchReservation { .. }
+        | Lint::NoSuchStart { .. } => false,
+    }
+}
+
+/// Whether it is that no reply takes this arm of the send on the line with this index.
+pub(crate) fn is_of_arm(lint: Lint, send: usize, number: usize) -> bool {
+    match lint {
+        Lint::NeverTaken { line, arm, .. } => index_of(line) == send && arm == number,
+        Lint::NeverSent { .. }
+        | Lint::Covered { .. }
+        | Lint::NotNeeded { .. }
+        | Lint::NotUsed { .. }
+        | Lint::Keyless { .. }
+        | Lint::NoSuchReservation { .. }
+        | Lint::NoSuchStart { .. } => false,
     }
 }
 
@@ -79,12 +130,33 @@ fn put_not_needed<W: Write>(
     if let Some(index) = line_of(lines, b"role", owner, clause) {
         put_numbered(writer, lines, index)?;
     }
+    match nexuses.get(usize::from(host)) {
+        Some(nexus) if nexuses.len() > 1 && nexus.role.clauses.get(clause).is_some_and(changes) => {
+            put_widening(writer, owner)
+        }
+        Some(_) | None => say(
+            writer,
+            &[
+                Part::Text(b"   "),
+                name(owner),
+                Part::Text(
+                    b"'s script never sends this. The clause changes nothing for anybody, and can go.\n",
+                ),
+            ],
+        ),
+    }
+}
+
+/// Writes that the script of this name makes no use of a clause, which the others have to bear.
+pub(crate) fn put_widening<W: Write>(writer: &mut W, owner: &[u8]) -> Result<(), WriteFault> {
     say(
         writer,
         &[
-            Part::Text(b"    the script of"),
+            Part::Text(b"   "),
             name(owner),
-            Part::Text(b" sends nothing of this, and all others have to bear it.\n"),
+            Part::Text(b"'s script never sends this. Delete the clause: the checker assumes that"),
+            name(owner),
+            Part::Text(b" may.\n"),
         ],
     )
 }
@@ -93,11 +165,79 @@ fn put_not_used<W: Write>(writer: &mut W, lines: &[&[u8]], key: u64) -> Result<(
     if let Some(index) = keys_line(lines) {
         put_numbered(writer, lines, index)?;
     }
+    match dropped_line(lines, key) {
+        Some(index) => say(
+            writer,
+            &[
+                Part::Text(b"    the key"),
+                Part::Spaced(Token::Key(key)),
+                Part::Text(b" stands only in an option that its command does not use, as on line"),
+                line_number(index),
+                Part::Text(b".\n"),
+            ],
+        ),
+        None => say(
+            writer,
+            &[
+                Part::Text(b"    no start, role, script or plan names the key"),
+                Part::Spaced(Token::Key(key)),
+                Part::Text(b".\n"),
+            ],
+        ),
+    }
+}
+
+// That nobody may be registered at the start who holds by this alternative of the reservation.
+fn put_no_reservation<W: Write>(
+    writer: &mut W,
+    lines: &[&[u8]],
+    parts: &Parts,
+    alternative: usize,
+) -> Result<(), WriteFault> {
+    if let Some(index) = reservation_line(lines) {
+        put_numbered(writer, lines, index)?;
+    }
+    match parts.reservations.get(alternative) {
+        Some(Some(Held::One(kind, host))) => say(
+            writer,
+            &[
+                Part::Text(b"   "),
+                Part::Spaced(Token::Holder(*kind, name_of(&parts.nexuses, *host))),
+                Part::Text(b" can't be: at the start"),
+                name(name_of(&parts.nexuses, *host)),
+                Part::Text(b" is not registered.\n"),
+            ],
+        ),
+        Some(Some(Held::All(kind))) => say(
+            writer,
+            &[
+                Part::Text(b"   "),
+                Part::Spaced(Token::Number(u64::from(kind.code()))),
+                Part::Text(b" can't be: at the start nobody is registered.\n"),
+            ],
+        ),
+        Some(None) | None => Ok(()),
+    }
+}
+
+// That the nexus is registered in each state from which the scenario starts.
+fn put_no_start<W: Write>(
+    writer: &mut W,
+    lines: &[&[u8]],
+    nexuses: &[Nexus],
+    host: u8,
+) -> Result<(), WriteFault> {
+    let owner = name_of(nexuses, host);
+    if let Some(index) = line_of(lines, b"start", owner, 0) {
+        put_numbered(writer, lines, index)?;
+    }
     say(
         writer,
         &[
-            Part::Text(b"    no start, role, script or plan names the key"),
-            Part::Spaced(Token::Key(key)),
+            Part::Text(
+                b"    `free` can't be: each reservation that there may be at the start needs a key of",
+            ),
+            name(owner),
             Part::Text(b".\n"),
         ],
     )

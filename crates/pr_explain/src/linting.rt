@@ -1,7 +1,8 @@
 //! What is worth a look in a scenario that is accepted.
 
+use crate::beginnings::add_of_beginnings;
 use crate::covering::covers;
-use crate::keys::{declares_key, names_key, waits_for_key};
+use crate::keys::{declares_key, is_keyless, names_key, waits_for_key};
 use crate::lint::Lint;
 use pr_roles::{Action, Nexus, Scenario, names};
 use pr_script::Test;
@@ -9,7 +10,8 @@ use pr_verify::{Row, Table};
 use std::alloc::{AllocError, Global};
 
 /// What is worth a look: by the tables of its scripts, arms that no reply takes, clauses of roles that no command of the script
-/// needs, and keys that nothing uses. It promises nothing of what it finds.
+/// needs, keys that nothing uses and that a command lacks, and alternatives of the start that can't be. It promises nothing of what
+/// it finds.
 pub(crate) fn lints(
     alloc: Global,
     scenario: &Scenario,
@@ -25,6 +27,7 @@ pub(crate) fn lints(
             lints.push(Lint::NotUsed { key: *key })?;
         }
     }
+    add_of_beginnings(&mut lints, scenario.parts())?;
     Ok(lints)
 }
 
@@ -46,6 +49,9 @@ fn add_of_send(lints: &mut Vec<Lint>, host: u8, line: u32, row: &Row) -> Result<
     if row.arms.is_empty() && row.unarmed.is_empty() {
         lints.push(Lint::NeverSent { host, line })?;
         return Ok(());
+    }
+    if is_keyless(&row.command) {
+        lints.push(Lint::Keyless { host, line })?;
     }
     for (arm, test) in row.tests.iter().enumerate() {
         if let Some(above) = first_covering(&row.tests, arm, *test) {
@@ -85,8 +91,8 @@ fn add_of_role(lints: &mut Vec<Lint>, nexuses: &[Nexus], table: &Table) -> Resul
     Ok(())
 }
 
-// Whether the action names one of the commands.
-fn is_needed(rows: &[Row], action: Action) -> bool {
+/// Whether the action names one of the commands.
+pub(crate) fn is_needed(rows: &[Row], action: Action) -> bool {
     rows.iter().any(|row| names(action, row.command))
 }
 

@@ -78,7 +78,7 @@ fn senders_of(
     finding: &Finding,
 ) -> Result<Vec<SentBy>, AllocError> {
     match finding {
-        Finding::Found { breach, .. } => senders(alloc, scenario, &breach.history),
+        Finding::Found { breach, .. } => senders(alloc, scenario, &breach.start, &breach.history),
         Finding::Nothing { .. } => Ok(Vec::new(alloc)),
     }
 }

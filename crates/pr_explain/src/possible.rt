@@ -81,18 +81,21 @@ fn put_reservations<W: Write>(
     put(writer, b"\n")
 }
 
-// What may wait for the host of this name, by the number of each set of attentions.
+// What may be pending for the host of this name, by the number of each set of attentions.
 fn put_waiting<W: Write>(
     writer: &mut W,
     owner: &[u8],
     pending: &WordSet,
 ) -> Result<(), WriteFault> {
-    say(writer, &[Part::Text(b"  for"), name(owner)])?;
+    put(writer, b" ")?;
     let mut is_first = true;
     for number in 0..ATTENTION_SETS {
         if pending.has(number) {
             put_or(writer, is_first)?;
             put_attentions(writer, number)?;
+            if is_first {
+                say(writer, &[Part::Text(b" pending for"), name(owner)])?;
+            }
             is_first = false;
         }
     }
@@ -101,7 +104,7 @@ fn put_waiting<W: Write>(
 
 fn put_attentions<W: Write>(writer: &mut W, attentions: u8) -> Result<(), WriteFault> {
     if attentions == 0 {
-        return put(writer, b" nothing waits");
+        return put(writer, b" nothing is");
     }
     let mut is_first = true;
     for attention in Attention::ALL {
@@ -114,9 +117,9 @@ fn put_attentions<W: Write>(writer: &mut W, attentions: u8) -> Result<(), WriteF
     put(
         writer,
         if attentions.count_ones() == 1 {
-            b" waits"
+            b" is"
         } else {
-            b" wait"
+            b" are"
         },
     )
 }

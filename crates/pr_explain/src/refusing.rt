@@ -35,8 +35,8 @@ pub(crate) fn put_refused<W: Write>(
     put(writer, b"\n")?;
     let nexuses = &scenario.parts().nexuses;
     put_reason(writer, lines, nexuses, refusal, tables)?;
-    put_finding(writer, lines, nexuses, refusal, finding, senders)?;
-    put_advice(writer, lines, nexuses, refusal, tables)
+    put_finding(writer, lines, nexuses, refusal, tables, finding, senders)?;
+    put_advice(writer, lines, nexuses, refusal, tables, finding, senders)
 }
 
 // Where it is refused, and what may be there.

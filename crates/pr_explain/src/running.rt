@@ -1,12 +1,14 @@
 //! The run that shows why a scenario is refused, in words, or that none was found.
 
-use crate::lint_words::put_numbered;
+use crate::lint_words::{put_numbered, put_widening};
+use crate::linting::is_needed;
+use crate::refusing::row_at;
 use crate::saying::{Part, name, number, say};
 use crate::senders::SentBy;
-use crate::source::line_of;
+use crate::source::{first_word, is, line_of};
 use pr_output::{WriteFault, put};
 use pr_roles::{Action, Clause, Item, Nexus};
-use pr_verify::Refusal;
+use pr_verify::{Refusal, Table};
 use pr_witness::{Bound, Breach, Broken, Finding};
 use pr_words::{name_of, put_item, put_start};
 use std::io::Write;
@@ -17,51 +19,106 @@ pub(crate) fn put_finding<W: Write>(
     lines: &[&[u8]],
     nexuses: &[Nexus],
     refusal: Refusal,
+    tables: &[Table],
     finding: &Finding,
     senders: &[SentBy],
 ) -> Result<(), WriteFault> {
     match finding {
-        Finding::Found { breach, is_told } => {
-            put(
-                writer,
-                if *is_told {
-                    b"\nIt comes to that, from this start:\n".as_slice()
-                } else {
-                    b"\nNo run was found that shows just this. But from this start it comes to something else, which is
-refused once this is mended:\n"
-                },
-            )?;
+        Finding::Found { breach, is_told }
+            if *is_told || reaches_unarmed(breach.broken, refusal, tables) => {
+            put(writer, b"\nIt comes to that, from this start:\n")?;
             put_run(writer, lines, nexuses, breach, senders)
         }
+        Finding::Found { breach, .. } => {
+            put(
+                writer,
+                b"\nNo run was found that shows just this, but from this start something else goes wrong:\n",
+            )?;
+            put_run(writer, lines, nexuses, breach, senders)?;
+            put(
+                writer,
+                b"Mend this first: with these scripts and roles it does happen. What follows is for what `fence check`
+tells now.\n",
+            )
+        }
         Finding::Nothing { worlds, bound } => {
-            put_nothing(writer, *worlds, *bound)?;
-            put_others(writer, lines, nexuses, refusal)
+            put_nothing(writer, lines, *worlds, *bound)?;
+            put_others(writer, lines, nexuses, refusal, tables)
         }
     }
 }
 
+// Whether the run comes to the send that the verdict tells, and that has no arm, so that it is never to be sent.
+fn reaches_unarmed(broken: Broken, refusal: Refusal, tables: &[Table]) -> bool {
+    match (broken, refusal) {
+        (
+            Broken::NoArm { host, line },
+            Refusal::NoArm {
+                host: told_host,
+                line: told_line,
+                ..
+            },
+        ) if host == told_host && line == told_line => match row_at(tables, host, line) {
+            Some(row) => row.tests.is_empty(),
+            None => false,
+        },
+        (Broken::NoArm { .. } | Broken::OutOfRole { .. } | Broken::OverBudget { .. }, _) => false,
+    }
+}
+
+// What the search looked at, and what helps where a bound ended it.
 fn put_nothing<W: Write>(
     writer: &mut W,
+    lines: &[&[u8]],
     worlds: usize,
     bound: Option<Bound>,
 ) -> Result<(), WriteFault> {
+    let Some(bound) = bound else {
+        return say(
+            writer,
+            &[
+                Part::Text(b"\nNo run shows it: all"),
+                number(worlds as u64),
+                Part::Text(
+                    b" states of disk and scripts that can come up were looked at. So with these scripts",
+                ),
+                Part::Text(
+                    b" and roles it can't happen, which `fence check` can't see. (That was searched, and is",
+                ),
+                Part::Text(
+                    b" not proved: see 'Safe, and refused all the same' in docs/VERDICTS.md.)\n",
+                ),
+            ],
+        );
+    };
     say(
         writer,
         &[
-            Part::Text(b"\nNo run that shows it was found, among"),
+            Part::Text(b"\nNo run that shows it was found among"),
             number(worlds as u64),
-            Part::Text(b" states of disk and scripts"),
+            Part::Text(b" states of disk and scripts.\n"),
             Part::Text(match bound {
-                None =>
-                    b".\nMost often such a script is safe, and refused for what a view can't see: see 'Safe, and refused all
-the same' in docs/VERDICTS.md.\n",
-                Some(Bound::Worlds) => b". The search looks at no more; another may show it.\n",
-                Some(Bound::Depth) =>
-                    b". The search looks at no longer runs; one of these may show it.\n",
-                Some(Bound::Memory) =>
-                    b". The search has no memory for more; another may show it.\n",
+                Bound::Worlds => b"The search looks at no more, and another may show it.\n",
+                Bound::Depth =>
+                    b"The search follows no run any longer, and one of these may show it.\n",
+                Bound::Memory => b"The search has no memory for more, and another may show it.\n",
             }),
         ],
+    )?;
+    put_help(writer, lines)
+}
+
+// What lets a search come to its end.
+fn put_help<W: Write>(writer: &mut W, lines: &[&[u8]]) -> Result<(), WriteFault> {
+    if lines.iter().any(|line| is(first_word(line), "repeat")) {
+        return put(
+            writer,
+            b"To see more, give the repeats of a copy smaller counts, and explain that.\n",
+        );
+    }
+    put(
+        writer,
+        b"To see more, give a copy fewer guests, or their roles fewer clauses, and explain that.\n",
     )
 }
 
@@ -71,6 +128,7 @@ fn put_others<W: Write>(
     lines: &[&[u8]],
     nexuses: &[Nexus],
     refusal: Refusal,
+    tables: &[Table],
 ) -> Result<(), WriteFault> {
     let (Refusal::NoArm { host, .. } | Refusal::OutOfRole { host, .. }) = refusal else {
         return Ok(());
@@ -87,13 +145,25 @@ fn put_others<W: Write>(
             )?;
             is_first = false;
         }
-        put_changes(writer, lines, nexus)?;
+        put_changes(writer, lines, nexus, table_of(tables, number))?;
     }
     Ok(())
 }
 
-// The clauses by which the nexus may change what the disk has.
-fn put_changes<W: Write>(writer: &mut W, lines: &[&[u8]], nexus: &Nexus) -> Result<(), WriteFault> {
+// The table of the nexus with this number, which a host has.
+fn table_of(tables: &[Table], number: usize) -> Option<&Table> {
+    tables
+        .iter()
+        .find(|table| usize::from(table.outline.host) == number)
+}
+
+// The clauses by which the nexus may change what the disk has, and of which of them its script makes no use.
+fn put_changes<W: Write>(
+    writer: &mut W,
+    lines: &[&[u8]],
+    nexus: &Nexus,
+    table: Option<&Table>,
+) -> Result<(), WriteFault> {
     let owner = nexus.name.as_str().as_bytes();
     for (number, clause) in nexus.role.clauses.iter().enumerate() {
         if !changes(clause) {
@@ -102,11 +172,17 @@ fn put_changes<W: Write>(writer: &mut W, lines: &[&[u8]], nexus: &Nexus) -> Resu
         if let Some(index) = line_of(lines, b"role", owner, number) {
             put_numbered(writer, lines, index)?;
         }
+        if let Some(table) = table
+            && !is_needed(&table.rows, clause.action)
+        {
+            put_widening(writer, owner)?;
+        }
     }
     Ok(())
 }
 
-fn changes(clause: &Clause) -> bool {
+/// Whether the clause lets its owner change what the disk has.
+pub(crate) fn changes(clause: &Clause) -> bool {
     clause.action != Action::Read && clause.action != Action::Write
 }
 

@@ -82,10 +82,65 @@ pub(crate) fn line_of(lines: &[&[u8]], word: &[u8], name: &[u8], number: usize) 
 
 /// The index of the line that declares the keys.
 pub(crate) fn keys_line(lines: &[&[u8]]) -> Option<usize> {
+    line_with(lines, "keys")
+}
+
+/// The index of the line that declares the reservations of the start.
+pub(crate) fn reservation_line(lines: &[&[u8]]) -> Option<usize> {
+    line_with(lines, "reservation")
+}
+
+// The index of the first line that begins with this word.
+fn line_with(lines: &[&[u8]], word: &str) -> Option<usize> {
     for (index, line) in lines.iter().enumerate() {
-        if is(first_word(line), "keys") {
+        if is(first_word(line), word) {
             return Some(index);
         }
     }
     None
+}
+
+/// The index of the first line that has an option of a command with this key. A key that no command has stands only in an option
+/// that its service action drops.
+pub(crate) fn dropped_line(lines: &[&[u8]], key: u64) -> Option<usize> {
+    for (index, line) in lines.iter().enumerate() {
+        if has_option(line, key) {
+            return Some(index);
+        }
+    }
+    None
+}
+
+fn has_option(line: &[u8], key: u64) -> bool {
+    let mut rest = line;
+    while let Some((word, others)) = next_word(rest) {
+        if key_in(word) == Some(key) {
+            return true;
+        }
+        rest = others;
+    }
+    false
+}
+
+// The key that an option of a command gives, if the word is one.
+fn key_in(word: &[u8]) -> Option<u64> {
+    let digits = word
+        .strip_prefix(b"--param-rk=".as_slice())
+        .or_else(|| word.strip_prefix(b"--param-sark=".as_slice()))?;
+    let digits = digits.strip_prefix(b"0x".as_slice()).unwrap_or(digits);
+    let mut key = 0_u64;
+    for digit in digits {
+        key = key.wrapping_mul(16) | u64::from(value_of(*digit)?);
+    }
+    Some(key)
+}
+
+// The value of a hexadecimal digit.
+fn value_of(digit: u8) -> Option<u8> {
+    match digit {
+        b'0'..=b'9' => Some(digit - b'0'),
+        b'a'..=b'f' => Some(digit - b'a' + 10),
+        b'A'..=b'F' => Some(digit - b'A' + 10),
+        _ => None,
+    }
 }

@@ -21,7 +21,7 @@ pub fn put_item<W: Write>(
         Item::Sent(entry) => put_entry(writer, nexuses, entry, line)?,
         Item::Reset => put(
             writer,
-            b" the disk is reset: 6/29/00 waits for each host and guest",
+            b" the disk is reset: 6/29/00 is pending for each host and guest",
         )?,
     }
     put(writer, b"\n")

@@ -16,6 +16,7 @@ mod source_line;
 mod standing;
 mod tale;
 mod telling;
+mod wrapping;
 
 pub use command::{put_command, put_request};
 pub use held::put_held;
@@ -26,3 +27,4 @@ pub use source_line::{line_in, put_carets, put_source_line};
 pub use standing::{name_of, put_end, put_start, put_unit};
 pub use tale::write_telling;
 pub use telling::{Departure, Instead, Note, Telling, telling_from, telling_of};
+pub use wrapping::Wrapping;

@@ -2,6 +2,7 @@
 
 use crate::held::put_held;
 use crate::sense::put_sense;
+use crate::wrapping::Wrapping;
 use pr_attention::{Attention, Pending};
 use pr_audit::End;
 use pr_output::{Token, WriteFault, put, put_line, put_spaced};
@@ -40,9 +41,10 @@ pub fn put_start<W: Write>(
     nexuses: &[Nexus],
     unit: &Unit,
 ) -> Result<(), WriteFault> {
-    put_unit(writer, nexuses, unit.registry())?;
+    let mut writer = Wrapping::new(writer);
+    put_unit(&mut writer, nexuses, unit.registry())?;
     for host in 0..unit.registry().hosts() {
-        put_waiting(writer, name_of(nexuses, host), unit.pending(host))?;
+        put_waiting(&mut writer, name_of(nexuses, host), unit.pending(host))?;
     }
     Ok(())
 }
@@ -55,7 +57,7 @@ fn put_waiting<W: Write>(
     for attention in Attention::ALL {
         if pending.has(attention) {
             put_sense(writer, attention.sense())?;
-            put(writer, b" waits for")?;
+            put(writer, b" is pending for")?;
             put_spaced(writer, &[Token::Text(owner)])?;
             put(writer, b"\n")?;
         }

@@ -5,6 +5,7 @@ use crate::item::put_item;
 use crate::reply::put_reply;
 use crate::standing::{name_of, put_end, put_unit};
 use crate::telling::{Departure, Instead, Telling};
+use crate::wrapping::Wrapping;
 use pr_audit::End;
 use pr_cdb::Status;
 use pr_output::{Token, WriteFault, put, put_line, put_number, put_spaced};
@@ -13,18 +14,20 @@ use std::io::Write;
 
 /// Writes a history as it is told: each item, with the line of the script that it comes from, and behind one that isn't legal what
 /// would have been in its place; whether the history is legal, and how many items aren't; the unit, and how each nexus stands.
-/// Behind an item that isn't legal it is told as if the answer had been right. A trace's own last lines are not told.
+/// Behind an item that isn't legal it is told as if the answer had been right. A trace's own last lines are not told. A line of
+/// more than 100 columns goes on in the next, further in.
 pub fn write_telling<W: Write>(
     writer: &mut W,
     scenario: &Scenario,
     history: &[Item],
     telling: &Telling,
 ) -> Result<(), WriteFault> {
+    let mut writer = Wrapping::new(writer);
     let nexuses = &scenario.parts().nexuses;
-    put_items(writer, nexuses, history, telling)?;
-    put_count(writer, history, telling)?;
-    put_unit(writer, nexuses, telling.unit.registry())?;
-    put_ends(writer, nexuses, &telling.ends, &telling.counts)
+    put_items(&mut writer, nexuses, history, telling)?;
+    put_count(&mut writer, history, telling)?;
+    put_unit(&mut writer, nexuses, telling.unit.registry())?;
+    put_ends(&mut writer, nexuses, &telling.ends, &telling.counts)
 }
 
 fn put_items<W: Write>(
