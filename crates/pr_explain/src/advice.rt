@@ -1,7 +1,7 @@
 //! What to write where a scenario is refused.
 
 use crate::blocks::{end_of, statements_in};
-use crate::cause::{clearing, preempting, unregistering};
+use crate::cause::{preempting, unregistering};
 use crate::keys::is_keyless;
 use crate::lint_words::index_of;
 use crate::losses::Loss;
@@ -277,5 +277,14 @@ pub(crate) fn put_deed<W: Write>(
         | Command::ReadReservation { .. }
         | Command::ReportCapabilities { .. }
         | Command::Reserve { .. } => put(writer, b"changed that"),
+    }
+}
+
+// What a CLEAR did.
+fn clearing(loss: Loss) -> &'static [u8] {
+    if loss.before.is_some() {
+        b"cleared the reservation and all registrations"
+    } else {
+        b"cleared all registrations"
     }
 }

@@ -5,24 +5,31 @@ use pr_registry::Held;
 use pr_roles::{Nexus, Parts};
 use std::alloc::AllocError;
 
-/// Adds each alternative of the reservation, and of each nexus's registration, that no such state has: who holds is registered, and
-/// where all registrants hold, somebody is.
+/// Adds each alternative of the reservation that no such state has, and each nexus that is registered in all of them though it may
+/// start free: who holds is registered, and where all registrants hold, somebody is.
 pub(crate) fn add_of_beginnings(lints: &mut Vec<Lint>, parts: &Parts) -> Result<(), AllocError> {
     for (alternative, held) in parts.reservations.iter().enumerate() {
         if !may_be_held(&parts.nexuses, *held) {
             lints.push(Lint::NoSuchReservation { alternative })?;
         }
     }
+    add_of_starts(lints, parts)
+}
+
+fn add_of_starts(lints: &mut Vec<Lint>, parts: &Parts) -> Result<(), AllocError> {
     let mut host: u8 = 0;
     for nexus in &parts.nexuses {
-        for (alternative, key) in nexus.start.alternatives.iter().enumerate() {
-            if key.is_none() && !may_be_free(parts, host) {
-                lints.push(Lint::NoSuchStart { host, alternative })?;
-            }
+        if has_free(nexus) && !may_be_free(parts, host) {
+            lints.push(Lint::NoSuchStart { host })?;
         }
         host = host.saturating_add(1);
     }
     Ok(())
+}
+
+// Whether not being registered is one of the alternatives of the nexus.
+fn has_free(nexus: &Nexus) -> bool {
+    nexus.start.alternatives.iter().any(|key| key.is_none())
 }
 
 // Whether some state has this reservation.

@@ -152,15 +152,6 @@ pub(crate) fn unregistering(condition: Condition, loss: Loss) -> &'static [u8] {
     }
 }
 
-/// What was done by the command that ends all registrations.
-pub(crate) fn clearing(loss: Loss) -> &'static [u8] {
-    if loss.before.is_some() {
-        b"cleared the reservation and all registrations"
-    } else {
-        b"cleared all registrations"
-    }
-}
-
 /// What a PREEMPT did to the nexus.
 pub(crate) fn preempting(host: &[u8], condition: Condition, loss: Loss) -> [Part<'_>; 3] {
     match condition {

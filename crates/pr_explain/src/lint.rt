@@ -39,9 +39,8 @@ pub enum Lint {
     NoSuchReservation {
         alternative: usize,
     },
-    /// In no such state is the nexus as this alternative of its start says.
+    /// In each such state the nexus is registered, though its start has `free`.
     NoSuchStart {
         host: u8,
-        alternative: usize,
     },
 }

@@ -18,20 +18,16 @@ pub(crate) fn put_lint<W: Write>(
     parts: &Parts,
     lint: Lint,
 ) -> Result<(), WriteFault> {
+    let nexuses = &parts.nexuses;
     match lint {
         Lint::NeverSent { line, .. } => {
-            put_numbered(writer, lines, index_of(line))?;
-            put(
-                writer,
-                b"    is never sent: the script does not come to it.\n",
-            )
+            let said = b"    is never sent: the script does not come to it.\n";
+            put_of_line(writer, lines, index_of(line), said)
         }
         Lint::NeverTaken { line, arm, .. } => {
-            put_numbered(writer, lines, arm_of(lines, index_of(line), arm))?;
-            put(
-                writer,
-                b"    no reply takes this arm; what it sends counts for the budget all the same.\n",
-            )
+            let said =
+                b"    no reply takes this arm; what it sends counts for the budget all the same.\n";
+            put_of_line(writer, lines, arm_of(lines, index_of(line), arm), said)
         }
         Lint::Covered {
             line,
@@ -39,22 +35,28 @@ pub(crate) fn put_lint<W: Write>(
             above,
             ..
         } => put_covered(writer, lines, index_of(line), arm, above),
-        Lint::NotNeeded { host, clause } => {
-            put_not_needed(writer, lines, &parts.nexuses, host, clause)
-        }
+        Lint::NotNeeded { host, clause } => put_not_needed(writer, lines, nexuses, host, clause),
         Lint::NotUsed { key } => put_not_used(writer, lines, key),
         Lint::Keyless { line, .. } => {
-            put_numbered(writer, lines, index_of(line))?;
-            put(
-                writer,
-                b"    has no --param-rk, so its key is 0, with which nobody is registered: it never ends GOOD.\n",
-            )
+            let said =
+                b"    has no --param-rk, so its key is 0, with which nobody is registered: it never ends GOOD.\n";
+            put_of_line(writer, lines, index_of(line), said)
         }
         Lint::NoSuchReservation { alternative } => {
             put_no_reservation(writer, lines, parts, alternative)
         }
-        Lint::NoSuchStart { host, .. } => put_no_start(writer, lines, &parts.nexuses, host),
+        Lint::NoSuchStart { host } => put_no_start(writer, lines, nexuses, host),
     }
+}
+
+fn put_of_line<W: Write>(
+    writer: &mut W,
+    lines: &[&[u8]],
+    index: usize,
+    said: &[u8],
+) -> Result<(), WriteFault> {
+    put_numbered(writer, lines, index)?;
+    put(writer, said)
 }
 
 /// Whether it says of itself that it is never taken: an arm that begins with a send without arms.

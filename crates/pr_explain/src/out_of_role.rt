@@ -215,17 +215,20 @@ fn put_own_key<W: Write>(
 }
 
 fn own_key(nexus: &Nexus) -> Option<u64> {
-    for clause in &nexus.role.clauses {
-        if let Action::Register(key) = clause.action {
-            return Some(key);
-        }
+    let registered = nexus
+        .role
+        .clauses
+        .iter()
+        .find_map(|clause| registered_by(clause.action));
+    registered.or_else(|| nexus.start.alternatives.iter().find_map(|key| *key))
+}
+
+fn registered_by(action: Action) -> Option<u64> {
+    if let Action::Register(key) = action {
+        Some(key)
+    } else {
+        None
     }
-    for alternative in &nexus.start.alternatives {
-        if alternative.is_some() {
-            return *alternative;
-        }
-    }
-    None
 }
 
 // The clause that would permit the command, and what it means.

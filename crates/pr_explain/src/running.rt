@@ -9,7 +9,7 @@ use crate::source::{first_word, is, line_of};
 use pr_output::{WriteFault, put};
 use pr_roles::{Action, Clause, Item, Nexus};
 use pr_verify::{Refusal, Table};
-use pr_witness::{Bound, Breach, Broken, Finding};
+use pr_witness::{Bound, Breach, Broken, Finding, USUAL_BOUNDS};
 use pr_words::{name_of, put_item, put_start};
 use std::io::Write;
 
@@ -97,29 +97,54 @@ fn put_nothing<W: Write>(
             Part::Text(b"\nNo run that shows it was found among"),
             number(worlds as u64),
             Part::Text(b" states of disk and scripts.\n"),
-            Part::Text(match bound {
-                Bound::Worlds => b"The search looks at no more, and another may show it.\n",
-                Bound::Depth =>
-                    b"The search follows no run any longer, and one of these may show it.\n",
-                Bound::Memory => b"The search has no memory for more, and another may show it.\n",
-            }),
         ],
     )?;
-    put_help(writer, lines)
+    put_bound(writer, bound)?;
+    put_help(writer, lines, bound)
 }
 
-// What lets a search come to its end.
-fn put_help<W: Write>(writer: &mut W, lines: &[&[u8]]) -> Result<(), WriteFault> {
-    if lines.iter().any(|line| is(first_word(line), "repeat")) {
+// Which bound ended the search.
+fn put_bound<W: Write>(writer: &mut W, bound: Bound) -> Result<(), WriteFault> {
+    match bound {
+        Bound::Worlds => put(
+            writer,
+            b"The search looks at no more, and another may show it.\n",
+        ),
+        Bound::Depth => say(
+            writer,
+            &[
+                Part::Text(b"The search follows no run beyond"),
+                number(u64::from(USUAL_BOUNDS.depth)),
+                Part::Text(b" commands and resets, and a longer one may show it.\n"),
+            ],
+        ),
+        Bound::Memory => put(
+            writer,
+            b"The search has no memory for more, and another may show it.\n",
+        ),
+    }
+}
+
+// What lets a search come to its end. That a run is too long hangs on no guest.
+fn put_help<W: Write>(writer: &mut W, lines: &[&[u8]], bound: Bound) -> Result<(), WriteFault> {
+    if has_line(lines, "repeat") {
         return put(
             writer,
             b"To see more, give the repeats of a copy smaller counts, and explain that.\n",
         );
     }
+    if bound == Bound::Depth || !has_line(lines, "guest") {
+        return Ok(());
+    }
     put(
         writer,
         b"To see more, give a copy fewer guests, or their roles fewer clauses, and explain that.\n",
     )
+}
+
+// Whether a line of the text begins with this word.
+fn has_line(lines: &[&[u8]], word: &str) -> bool {
+    lines.iter().any(|line| is(first_word(line), word))
 }
 
 // What the others may do at the disk at any time, by their roles, where a send is refused.
