@@ -179,7 +179,7 @@ that is held, 5/26/00 a PREEMPT of the key 0 where not all registrants hold.\n",
         ),
         Class::Conflict if is_keyless(&row.command) => put(
             writer,
-            b"The command has no --param-rk, so its key is 0, with which nobody is registered: it never ends GOOD.\n",
+            b"Its reservation key is 0 (--param-rk), with which nobody is registered: it never ends GOOD.\n",
         ),
         Class::Good | Class::Conflict | Class::Busy | Class::Full | Class::Sense(_) => put(
             writer,

@@ -111,19 +111,17 @@ fn is_statement(word: &[u8]) -> bool {
         .any(|it| is(word, it))
 }
 
-/// Whether something is sent in the arm on the line with this index.
+/// Whether something is sent in the arm on the line with this index. A repeat sends something.
 pub(crate) fn sends_in_arm(lines: &[&[u8]], arm: usize) -> bool {
-    let mut depth = 1;
     for (index, line) in lines.iter().enumerate() {
         let word = first_word(line);
         if index <= arm {
             continue;
         }
-        if is(word, "send") {
+        if is(word, "send") || is(word, "repeat") {
             return true;
         }
-        depth = depth_behind(depth, word);
-        if depth == 0 || (depth == 1 && is(word, "on")) {
+        if is(word, "on") || is(word, "done") {
             return false;
         }
     }

@@ -27,23 +27,21 @@ pub(crate) fn asks_for(clauses: &[Clause], command: Command, condition: Conditio
         && clause.condition == Some(condition))
 }
 
-/// The last command of the run that took away what the role asks for, if one did.
-pub(crate) fn last_loss(
+/// The command of the run that took away what the role asks for, if one did: the registration first, if that is gone.
+pub(crate) fn loss_in(
     breach: &Breach,
     clauses: &[Clause],
     host: u8,
     command: Command,
 ) -> Option<Loss> {
-    let mut last: Option<Loss> = None;
     for condition in CONDITIONS {
         if asks_for(clauses, command, condition)
             && let Some(loss) = loss_of(breach, host, condition)
-            && last.is_none_or(|known| known.index < loss.index)
         {
-            last = Some(loss);
+            return Some(loss);
         }
     }
-    last
+    None
 }
 
 /// Writes which commands of the run took away what the role of the last sender asks for, and what let its command end GOOD then.

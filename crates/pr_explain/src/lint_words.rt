@@ -39,7 +39,7 @@ pub(crate) fn put_lint<W: Write>(
         Lint::NotUsed { key } => put_not_used(writer, lines, key),
         Lint::Keyless { line, .. } => {
             let said =
-                b"    has no --param-rk, so its key is 0, with which nobody is registered: it never ends GOOD.\n";
+                b"    has the reservation key 0 (--param-rk), with which nobody is registered: it never ends GOOD.\n";
             put_of_line(writer, lines, index_of(line), said)
         }
         Lint::NoSuchReservation { alternative } => {

@@ -1,7 +1,7 @@
 //! What to change where a command is out of its sender's role.
 
 use crate::advice::put_action;
-use crate::cause::{CONDITIONS, asks_for, last_loss, put_cause, put_told};
+use crate::cause::{CONDITIONS, asks_for, loss_in, put_cause, put_told};
 use crate::lint_words::put_numbered;
 use crate::losses::{Loss, command_at};
 use crate::saying::{Part, name, number, say};
@@ -98,7 +98,7 @@ fn put_mended_run<W: Write>(
     let Some(nexus) = nexuses.get(usize::from(host)) else {
         return Ok(());
     };
-    let Some(loss) = last_loss(breach, &nexus.role.clauses, host, command) else {
+    let Some(loss) = loss_in(breach, &nexus.role.clauses, host, command) else {
         return put_mended_script(writer, nexus, command, line);
     };
     if let Some(own) = own_line(breach, senders, host, loss) {
