@@ -47,7 +47,7 @@ impl<'a, W: Write> Wrapping<'a, W> {
                 self.put_word()?;
                 self.end_line()
             }
-            b' ' if self.is_in_word() && !self.names_line() => {
+            b' ' if self.is_in_word() => {
                 self.put_word()?;
                 self.keep(byte)
             }
@@ -58,11 +58,6 @@ impl<'a, W: Write> Wrapping<'a, W> {
     // Whether what is kept back has more than spaces.
     fn is_in_word(&self) -> bool {
         self.word.iter().any(|byte| *byte != b' ')
-    }
-
-    // Whether the number of a line comes, which stays beside its word.
-    fn names_line(&self) -> bool {
-        self.word.ends_with(b" line")
     }
 
     // A word that is too long for what is kept goes out in parts.
