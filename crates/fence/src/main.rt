@@ -198,12 +198,18 @@ fn explain_trace(rt: &HostRuntime, text: &mut Source, path: &str) -> Result<Exit
     // (by its first line it may be a witness)
     let mut trace = Peeked::new(&mut trace);
     let (mut output, mut errors) = (rt.stdout(), rt.stderr());
-    Ok(if trace.begins_with(FIRST_LINE) {
-        do_explain_witness(rt.alloc(), text, &mut trace, &mut output, &mut errors)
-    } else {
-        do_explain_trace(rt.alloc(), text, &mut trace, &mut output, &mut errors)
-    })
+    if trace.is_front(FIRST_LINE) {
+        return Ok(do_explain_witness(rt.alloc(), text, &mut trace, &mut output, &mut errors));
+    }
+    if trace.begins_with(b"fence ") || trace.begins_with(b"#") {
+        let _ = output.write_all(SECOND_SCENARIO);
+    }
+    Ok(do_explain_trace(rt.alloc(), text, &mut trace, &mut output, &mut errors))
 }
+
+const SECOND_SCENARIO: &[u8] =
+    b"The second file looks like a scenario: fence explain takes one scenario, and a trace or a witness of
+it behind that.\n";
 
 // Prints clap's text for a command line that it refuses; help and the version come here too.
 fn refuse(rt: &HostRuntime, error: &clap::Error) -> Result<ExitStatus, Fault> {

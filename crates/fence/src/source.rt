@@ -57,9 +57,14 @@ impl<'a> Peeked<'a> {
         }
     }
 
+    /// Whether these bytes are all that was looked at.
+    pub fn is_front(&self, bytes: &[u8]) -> bool {
+        self.front.as_slice() == bytes
+    }
+
     /// Whether it begins with these bytes.
     pub fn begins_with(&self, bytes: &[u8]) -> bool {
-        self.front.as_slice() == bytes
+        self.front.starts_with(bytes)
     }
 }
 

@@ -25,11 +25,13 @@ pub fn read_and_tell<R: Read, W: Write>(
     ensures read { IfSome (R.remaining reader.old) (λ text. IsRead text result.1) }
     ensures limited { LosesUpTo (MOST_BYTES + 1) (R.remaining reader.old) (R.remaining reader.new) }
 {
-    let (text, scenario) = read_with_text(alloc, reader);
-    if let Err(error) = &scenario {
-        let _ = write_text_fault(writer, &text, *error);
+    match read_with_text(alloc, reader) {
+        (text, Ok(scenario)) => (text, Ok(scenario)),
+        (text, Err(found)) => {
+            let _ = write_text_fault(writer, &text, &found);
+            (text, Err(found.error))
+        }
     }
-    (text, scenario)
 }
 
 /// The history of the trace that `reader` has left, or the trace's one fault, in the same way.

@@ -152,7 +152,7 @@ fn start_line(alloc: Global, line: &[u8]) -> Result<Option<ScenarioLine>, AllocE
     if !STARTS.contains(&word) {
         return Ok(None);
     }
-    item_of(alloc, word, words)
+    Ok(item_of(alloc, word, words)?.ok())
 }
 
 // The items, which are those of a trace: its first line is put in front of them.

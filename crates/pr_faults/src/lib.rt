@@ -6,18 +6,12 @@
 #![tactic(auto)]
 
 mod declared;
-mod forms;
+mod indents;
 mod limits;
-mod misfit;
-mod nearest;
-mod open;
-mod saying;
-mod slots;
 mod standing;
 mod telling;
 mod traces;
 mod unknown;
-mod words;
 
 pub use telling::write_text_fault;
 pub use traces::write_trace_fault;

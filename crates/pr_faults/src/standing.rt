@@ -1,15 +1,13 @@
-//! Lines that fit nothing, or not where they stand.
+//! Lines that may not stand where they stand.
 
-use crate::forms::{COMMAND, Form, Stands, form_of, forms};
-use crate::misfit::{Misfit, first_misfit};
-use crate::nearest::{edits, nearest};
-use crate::open::{Block, Open, Section};
-use crate::saying::{Said, say};
-use crate::slots::Slot;
-use crate::unknown::put_word_carets;
-use crate::words::{Placed, Words, is, word_at, words_in};
+use crate::indents::unclosed_by_indent;
+use pr_lines::{Keyword, Misfit, Wanted, keyword_of};
 use pr_output::{WriteFault, put};
-use pr_script::is_name;
+use pr_slips::{
+    Correction, Placed, Said, Told, edits, put_corrected, put_word_carets, say, tell_misfit,
+    tell_no_line, word_at, words_in,
+};
+use pr_text::{Above, Block, Diagnosis, Section};
 use pr_words::{line_in, put_source_line};
 use std::io::Write;
 
@@ -21,9 +19,18 @@ enum Reason {
 
     /// Another line makes it so, which stands between these words.
     Line(&'static [u8], u32, &'static [u8]),
+
+    /// The block is open.
+    Unclosed(Block),
+
+    /// It is a command, and would stand behind `send`.
+    Unsent,
 }
 
-const NOT_FIRST: Reason = Reason::Said(b"The first line with words is fence 1 or fence 2.\n");
+const NO_VERSION: &[u8] =
+    b"The first line with words is fence 1 or fence 2, and the text has none.\n";
+
+const NOT_FIRST: &[u8] = b"The first line with words is fence 1 or fence 2.\n";
 
 const OUTSIDE: Reason = Reason::Said(
     b"No script is open here: a statement stands between a line script NAME budget N and its end.\n",
@@ -45,155 +52,199 @@ const NO_SCRIPT: Reason = Reason::Said(
     b"The host has no script: add one, script NAME budget N to end, or make it a guest.\n",
 );
 
-impl Reason {
-    /// It stands in the plan of this line.
-    fn in_plan(line: u32) -> Self {
-        Reason::Line(
-            b"The plan of ",
-            line,
-            b" is open: each of its lines is a command, and end closes it.",
-        )
-    }
-
-    /// It stands in the script of this line.
-    fn in_script(line: u32) -> Self {
-        Reason::Line(b"The script of ", line, b" is open, and end closes it.")
-    }
-
-    /// The send has no arm yet.
-    fn armless(line: u32) -> Self {
-        Reason::Line(
-            b"The send of ",
-            line,
-            b" has no arm yet: behind it stands on ARM, or done. What is done after any reply stands behind done.",
-        )
-    }
-
-    /// It would be the first statement of the repeat.
-    fn first_of_repeat(line: u32) -> Self {
-        Reason::Line(
-            b"The first statement of the repeat of ",
-            line,
-            b" is a send or a repeat.",
-        )
-    }
-
-    /// The block is open.
-    fn unclosed(block: Block) -> Self {
-        let before: &[u8] = if block.is_repeat {
-            b"The repeat of "
-        } else {
-            b"The send of "
-        };
-        Reason::Line(before, block.line, b" is open, and done closes it first.")
-    }
-}
+const NOT_UNDER: Reason = Reason::Said(
+    b"The send of this arm is of another command: has stands below --read-keys, held and unheld below\n--read-reservation.\n",
+);
 
 /// Tells the line of this number, which has the form of none, or of one that may not stand there.
-pub fn tell_syntax<W: Write>(writer: &mut W, text: &[u8], number: u32) -> Result<(), WriteFault> {
+pub fn tell_syntax<W: Write>(
+    writer: &mut W,
+    text: &[u8],
+    number: u32,
+    found: &Diagnosis,
+) -> Result<(), WriteFault> {
     let line = line_in(text, number).unwrap_or(b"");
     let words = words_in(line);
-    let open = Open::above(text, number);
     put_source_line(writer, text, number)?;
-    match (words.first(), reason_of(&open, &words)) {
-        (Some(first), Some(reason)) => {
-            put_word_carets(writer, number, line, *first)?;
-            tell_reason(writer, text, reason)
+    let Some(first) = words.first() else {
+        return put(writer, NO_VERSION);
+    };
+    let told = Told {
+        number,
+        line,
+        words: &words,
+    };
+    if found.above.section == Section::Top && first.text != b"fence".as_slice() {
+        put_word_carets(writer, number, line, *first)?;
+        put(writer, NOT_FIRST)?;
+        if edits(first.text, b"fence").is_some() {
+            return put_corrected(writer, line, Correction::of(*first, b"fence"));
         }
-        (None, _) => put(writer, NO_VERSION),
-        (Some(first), None) => tell_form(writer, number, line, &open, *first, &words),
+        return put(writer, kind_of_text(text, first.text));
+    }
+    match reason_of(&found.above, told, found.misfit) {
+        Some(reason) => {
+            put_word_carets(writer, number, line, *first)?;
+            tell_reason(writer, text, told, *first, reason)
+        }
+        None => tell_shape(writer, told, *first, &found.above, found.misfit),
     }
 }
 
-const NO_VERSION: &[u8] =
-    b"The first line with words is fence 1 or fence 2, and the text has none.\n";
+const SHELL: &[u8] =
+    b"This is a script of a shell: docs/FROM_SG_PERSIST.md says how to write it as a scenario.\n";
 
-// Why the line may not stand there, if its first word shows it.
-fn reason_of(open: &Open, words: &Words<'_>) -> Option<Reason> {
-    let first = word_at(words, 0);
-    let form = form_of(first);
-    match open.place {
-        Section::Top if !is(first, b"fence") => Some(NOT_FIRST),
+// What the text is by its first word, where that is no scenario.
+fn kind_of_text(text: &[u8], first: &[u8]) -> &'static [u8] {
+    match first {
+        b"fence-trace" => b"This is a trace: fence audit SCENARIO TRACE judges it.\n",
+        b"fence-witness" => b"This is a witness: fence explain SCENARIO WITNESS tells it.\n",
+        b"fence-outline" => b"This is an outline, which fence outline SCENARIO writes.\n",
+        b"sg_persist" | b"mpathpersist" | b"set" | b"export" | b"if" | b"for" => SHELL,
+        _ if text.starts_with(b"#!") => SHELL,
+        _ if first.starts_with(b"{") || first.starts_with(b"[") => b"This looks like JSON.\n",
+        _ if first.starts_with(b"//") || first.starts_with(b"/*") => b"A comment begins with #.\n",
+        _ => b"",
+    }
+}
+
+// Its words don't keep a shape.
+fn tell_shape<W: Write>(
+    writer: &mut W,
+    told: Told<'_>,
+    first: Placed<'_>,
+    above: &Above,
+    misfit: Option<Misfit>,
+) -> Result<(), WriteFault> {
+    let is_command = match above.section {
+        Section::Plan(_) => true,
+        Section::Top | Section::Outside | Section::Script(_) => keyword_of(first.text).is_some(),
+    };
+    match misfit {
+        Some(misfit) if is_command => tell_misfit(writer, told, misfit),
+        Some(_) | None => tell_no_line(writer, told, first),
+    }
+}
+
+// Why the line may not stand there, if what stands above it shows that.
+fn reason_of(above: &Above, told: Told<'_>, misfit: Option<Misfit>) -> Option<Reason> {
+    let keyword = keyword_of(word_at(told.words, 0));
+    match above.section {
         Section::Top => None,
-        Section::Outside => reason_outside(open, form, words),
-        Section::Script(line) => reason_in_script(open, line, form, words),
-        Section::Plan(line) => match form {
-            Some(form) if form.stands != Stands::End && !is_command(first) => {
-                Some(Reason::in_plan(line))
-            }
-            Some(_) | None => None,
+        Section::Outside => reason_outside(above, keyword?, misfit),
+        Section::Script(line) => match keyword {
+            Some(keyword) => reason_in_script(above, line, keyword, told, misfit),
+            None if is_command(misfit) => Some(Reason::Unsent),
+            None => None,
+        },
+        Section::Plan(line) => match keyword? {
+            Keyword::End => None,
+            _ => Some(Reason::Line(
+                b"The plan of ",
+                line,
+                b" is open: each of its lines is a command, and end closes it.",
+            )),
         },
     }
 }
 
-fn is_command(word: &[u8]) -> bool {
-    Slot::Part.takes(word)
-}
-
-fn reason_outside(open: &Open, form: Option<&Form>, words: &Words<'_>) -> Option<Reason> {
-    let form = form?;
-    match form.stands {
-        Stands::InScript | Stands::End => Some(OUTSIDE),
-        Stands::First => None,
-        Stands::Outside if open.is_version_1 && is_new(form.word) => Some(VERSION),
-        Stands::Outside
-            if is(form.word, b"host") && words.len() == 2 && is_name(word_at(words, 1)) => {
-            Some(NO_SCRIPT)
-        }
-        Stands::Outside => None,
+// A command that is whole, or breaks off behind its first word.
+fn is_command(misfit: Option<Misfit>) -> bool {
+    match misfit {
+        Some(misfit) => misfit.wanted != Wanted::Command,
+        None => true,
     }
 }
 
-// Whether lines or arms of this word came with version 2.
-fn is_new(word: &[u8]) -> bool {
-    is(word, b"busy") || is(word, b"full") || is(word, b"resets")
+fn reason_outside(above: &Above, keyword: Keyword, misfit: Option<Misfit>) -> Option<Reason> {
+    match keyword {
+        Keyword::Send | Keyword::On | Keyword::Done | Keyword::Repeat => Some(OUTSIDE),
+        Keyword::Break | Keyword::Stop | Keyword::End => Some(OUTSIDE),
+        Keyword::Busy | Keyword::Full | Keyword::Resets if above.version < 2 => Some(VERSION),
+        Keyword::Host if misfit.is_none() => Some(NO_SCRIPT),
+        Keyword::Fence | Keyword::Keys | Keyword::Host | Keyword::Guest | Keyword::Start => None,
+        Keyword::Pending | Keyword::Busy | Keyword::Full | Keyword::Reservation => None,
+        Keyword::Generation | Keyword::Resets | Keyword::Role | Keyword::Script => None,
+        Keyword::Plan => None,
+    }
 }
 
 fn reason_in_script(
-    open: &Open,
+    above: &Above,
     line: u32,
-    form: Option<&Form>,
-    words: &Words<'_>,
+    keyword: Keyword,
+    told: Told<'_>,
+    misfit: Option<Misfit>,
 ) -> Option<Reason> {
-    let form = form?;
-    let innermost = open.innermost();
-    match form.stands {
-        Stands::First | Stands::Outside => match innermost {
-            Some(block) => Some(Reason::unclosed(block)),
-            None => Some(Reason::in_script(line)),
+    let innermost = above.innermost();
+    match keyword {
+        Keyword::Send | Keyword::Repeat | Keyword::Break | Keyword::Stop => {
+            reason_of_statement(above, keyword)
+        }
+        Keyword::On => reason_of_arm(above, told, misfit),
+        Keyword::Done if innermost.is_none() => Some(NOTHING_OPEN),
+        Keyword::Done if above.is_bare => reason_of_statement(above, keyword),
+        Keyword::Done => None,
+        Keyword::End => innermost.map(Reason::Unclosed),
+        Keyword::Fence
+        | Keyword::Keys
+        | Keyword::Host
+        | Keyword::Guest
+        | Keyword::Start
+        | Keyword::Pending
+        | Keyword::Busy
+        | Keyword::Full
+        | Keyword::Reservation
+        | Keyword::Generation
+        | Keyword::Resets
+        | Keyword::Role
+        | Keyword::Script
+        | Keyword::Plan => match innermost {
+            Some(block) => Some(Reason::Unclosed(block)),
+            None => Some(Reason::Line(b"The script of ", line, b" is open, and end closes it.")),
         },
-        Stands::End => innermost.map(Reason::unclosed),
-        Stands::InScript => reason_in_block(open, innermost, form, words),
     }
 }
 
-fn reason_in_block(
-    open: &Open,
-    innermost: Option<Block>,
-    form: &Form,
-    words: &Words<'_>,
-) -> Option<Reason> {
-    let is_on = is(form.word, b"on");
-    match innermost {
-        None if is_on => Some(NO_SEND),
-        None if is(form.word, b"done") => Some(NOTHING_OPEN),
-        Some(block) if is_on && block.is_repeat => Some(Reason::unclosed(block)),
-        Some(_) if is_on && open.is_version_1 && is_new(word_at(words, 1)) => Some(VERSION),
-        Some(_) if is_on || is(form.word, b"done") => None,
-        Some(block) if !block.is_repeat && !block.is_begun => Some(Reason::armless(block.line)),
-        Some(block) if block.is_repeat && !block.is_begun && is_leaving(form.word) => {
-            Some(Reason::first_of_repeat(block.line))
-        }
-        _ if is(form.word, b"break") && !open.is_in_repeat() => Some(NO_REPEAT),
+fn reason_of_arm(above: &Above, told: Told<'_>, misfit: Option<Misfit>) -> Option<Reason> {
+    let test = word_at(told.words, 1);
+    match above.innermost() {
+        None => Some(NO_SEND),
+        Some(block) if block.is_repeat => Some(Reason::Unclosed(block)),
+        Some(_) if above.version < 2 && matches!(test, b"busy" | b"full") => Some(VERSION),
+        Some(_) if misfit.is_none() => Some(NOT_UNDER),
+        Some(_) => None,
+    }
+}
+
+fn reason_of_statement(above: &Above, keyword: Keyword) -> Option<Reason> {
+    match above.innermost() {
+        Some(block) if above.is_bare && !block.is_repeat => Some(Reason::Line(
+            b"The send of ",
+            block.line,
+            b" has no arm yet: behind it stands on REPLY, or done. What is done after any\nreply stands behind done.",
+        )),
+        Some(block) if above.is_bare && is_leaving(keyword) => Some(Reason::Line(
+            b"The first statement of the repeat of ",
+            block.line,
+            b" is a send or a repeat.",
+        )),
+        _ if keyword == Keyword::Break && !above.is_in_repeat() => Some(NO_REPEAT),
         Some(_) | None => None,
     }
 }
 
-fn is_leaving(word: &[u8]) -> bool {
-    is(word, b"break") || is(word, b"stop")
+fn is_leaving(keyword: Keyword) -> bool {
+    keyword == Keyword::Break || keyword == Keyword::Stop || keyword == Keyword::Done
 }
 
-fn tell_reason<W: Write>(writer: &mut W, text: &[u8], reason: Reason) -> Result<(), WriteFault> {
+fn tell_reason<W: Write>(
+    writer: &mut W,
+    text: &[u8],
+    told: Told<'_>,
+    first: Placed<'_>,
+    reason: Reason,
+) -> Result<(), WriteFault> {
     match reason {
         Reason::Said(sentence) => put(writer, sentence),
         Reason::Line(before, line, after) => {
@@ -203,111 +254,52 @@ fn tell_reason<W: Write>(writer: &mut W, text: &[u8], reason: Reason) -> Result<
                 &[Said::Text(before), Said::Line(line), Said::Text(after)],
             )
         }
+        Reason::Unclosed(block) => {
+            tell_unclosed(
+                writer,
+                text,
+                told.number,
+                block,
+                b" is open, and done closes it first.",
+            )
+        }
+        Reason::Unsent => {
+            put(writer, b"In a script a command stands behind send:\n")?;
+            put_corrected(writer, told.line, Correction::before(first.first, b"send "))
+        }
     }
 }
 
-// The line's own form is not kept.
-fn tell_form<W: Write>(
+/// Tells the block that is open above the line of this number, and by their indents the one whose `done` is missing.
+pub fn tell_unclosed<W: Write>(
     writer: &mut W,
+    text: &[u8],
     number: u32,
-    line: &[u8],
-    open: &Open,
-    first: Placed<'_>,
-    words: &Words<'_>,
+    block: Block,
+    why: &[u8],
 ) -> Result<(), WriteFault> {
-    let behind = match words.as_slice().split_first() {
-        Some((_, behind)) => behind,
-        None => &[],
+    let what: &[u8] = if block.is_repeat {
+        b"The repeat of "
+    } else {
+        b"The send of "
     };
-    match (open.place, form_of(first.text)) {
-        (Section::Plan(_), _) => tell_misfit(writer, number, line, &COMMAND, words.as_slice()),
-        (_, Some(form)) => tell_misfit(writer, number, line, form, behind),
-        (_, None) => {
-            put_word_carets(writer, number, line, first)?;
-            tell_no_line(writer, first.text)
-        }
-    }
-}
-
-fn tell_no_line<W: Write>(writer: &mut W, word: &[u8]) -> Result<(), WriteFault> {
-    match nearest_form(word) {
-        Some(form) => say(
-            writer,
-            &[
-                Said::Text(b"No line begins so. The nearest word is "),
-                Said::Text(form.word),
-                Said::Text(b": "),
-                Said::Text(form.text),
-            ],
-        ),
-        None => put(writer, b"No line begins so.\n"),
-    }
-}
-
-fn nearest_form(word: &[u8]) -> Option<&'static Form> {
-    let mut found = None;
-    let mut fewest = usize::MAX;
-    for form in forms() {
-        if let Some(edits) = edits(word, form.word)
-            && edits < fewest
-        {
-            fewest = edits;
-            found = Some(form);
-        }
-    }
-    found
-}
-
-fn tell_misfit<W: Write>(
-    writer: &mut W,
-    number: u32,
-    line: &[u8],
-    form: &Form,
-    words: &[Placed<'_>],
-) -> Result<(), WriteFault> {
-    match first_misfit(form, words) {
-        Some(Misfit::Word(word, slot)) => {
-            put_word_carets(writer, number, line, word)?;
-            tell_wanted(writer, word.text, slot)?;
-        }
-        Some(Misfit::Extra(word)) => {
-            put_word_carets(writer, number, line, word)?;
-            put(writer, b"The line is at its end before this word.\n")?;
-        }
-        Some(Misfit::Missing(slot)) => say(
-            writer,
-            &[
-                Said::Text(b"A word is missing: "),
-                Said::Text(slot.wanted()),
-            ],
-        )?,
-        None => {}
-    }
+    put_source_line(writer, text, block.line)?;
     say(
         writer,
-        &[Said::Text(b"The form is: "), Said::Text(form.text)],
-    )
-}
-
-// What is wanted in place of the word, where the form does not say it.
-fn tell_wanted<W: Write>(writer: &mut W, word: &[u8], slot: Slot) -> Result<(), WriteFault> {
-    match (nearest(word, slot.words()), slot) {
-        (Some(near), _) => say(
-            writer,
-            &[
-                Said::Text(b"The nearest word is "),
-                Said::Text(near),
-                Said::Text(b"."),
-            ],
-        ),
-        (None, Slot::One(_)) => Ok(()),
-        (None, _) => say(
-            writer,
-            &[
-                Said::Text(b"Wanted is "),
-                Said::Text(slot.wanted()),
-                Said::Text(b"."),
-            ],
-        ),
+        &[Said::Text(what), Said::Line(block.line), Said::Text(why)],
+    )?;
+    match unclosed_by_indent(text, number) {
+        Some(line) => {
+            say(
+                writer,
+                &[
+                    Said::Text(b"By the indents it is "),
+                    Said::Line(line),
+                    Said::Text(b" that has no done:"),
+                ],
+            )?;
+            put_source_line(writer, text, line)
+        }
+        None => Ok(()),
     }
 }

@@ -2,13 +2,12 @@
 
 use crate::declared::line_of;
 use crate::limits::limit_words;
-use crate::open::{Open, Section};
-use crate::saying::{Said, say};
-use crate::standing::tell_syntax;
+use crate::standing::{tell_syntax, tell_unclosed};
 use crate::unknown::{tell_repeated, tell_undeclared, tell_unknown};
 use pr_output::{WriteFault, put};
-use pr_text::ReadError;
-use pr_words::{line_in, put_carets, put_source_line};
+use pr_slips::{Said, say, tell_not_ascii};
+use pr_text::{Above, Diagnosis, ReadError, Section};
+use pr_words::{line_in, put_source_line};
 use std::io::Write;
 
 /// Writes what a fault of this text means: its line, with carets where the word is known, and sentences. Where memory ran out
@@ -16,13 +15,13 @@ use std::io::Write;
 pub fn write_text_fault<W: Write>(
     writer: &mut W,
     text: &[u8],
-    error: ReadError,
+    found: &Diagnosis,
 ) -> Result<(), WriteFault> {
-    match error {
+    match found.error {
         ReadError::TooLarge => put(writer, TOO_LARGE),
         ReadError::NotAscii { line } => tell_not_ascii(writer, text, line),
         ReadError::LineTooLong { line } => tell_too_long(writer, text, line),
-        ReadError::Syntax { line } => tell_syntax(writer, text, line),
+        ReadError::Syntax { line } => tell_syntax(writer, text, line, found),
         ReadError::UnknownName { line } => tell_unknown(writer, text, line),
         ReadError::Limit { which, line } => {
             put_source_line(writer, text, line)?;
@@ -30,7 +29,7 @@ pub fn write_text_fault<W: Write>(
         }
         ReadError::UndeclaredKey { line } => tell_undeclared(writer, text, line),
         ReadError::Repeated { line } => tell_repeated(writer, text, line),
-        ReadError::Unclosed { line } => tell_unclosed(writer, text, line),
+        ReadError::Unclosed { line } => tell_ended(writer, text, line, &found.above),
         ReadError::ReadFault => put(writer, READ_FAULT),
         ReadError::Memory => Ok(()),
         ReadError::EmptyStart => tell_empty_start(writer, text),
@@ -41,26 +40,13 @@ const TOO_LARGE: &[u8] =
     b"The text has more than 65536 bytes, which is the most that a scenario may have. Is it one?\n";
 
 const READ_FAULT: &[u8] =
-    b"The text could not be read to its end: the path is a directory, standard input is closed, or the medium has a fault.\n";
-
-const NOT_ASCII: &[u8] =
-    b"A line has tabs, spaces and printing ASCII characters alone, in comments too.\n";
+    b"The text could not be read to its end: the path is a directory, standard input is closed, or the
+medium has a fault.\n";
 
 const EMPTY_START: &[u8] =
-    b"No alternative of the reservation can be true together with what the start lines say: a single holder is registered, and where all registrants hold, somebody is. Who has no start line starts free.\n";
-
-fn tell_not_ascii<W: Write>(writer: &mut W, text: &[u8], number: u32) -> Result<(), WriteFault> {
-    put_source_line(writer, text, number)?;
-    let line = line_in(text, number).unwrap_or(b"");
-    if let Some(place) = line.iter().position(|byte| !is_text_byte(*byte)) {
-        put_carets(writer, number, line, place, place.saturating_add(1))?;
-    }
-    put(writer, NOT_ASCII)
-}
-
-fn is_text_byte(byte: u8) -> bool {
-    byte == b'\t' || (b' ' <= byte && byte <= b'~')
-}
+    b"No alternative of the reservation can be true together with what the start lines say: a single
+holder is registered, and where all registrants hold, somebody is. Who has no start line starts
+free.\n";
 
 fn tell_too_long<W: Write>(writer: &mut W, text: &[u8], number: u32) -> Result<(), WriteFault> {
     let line = line_in(text, number).unwrap_or(b"");
@@ -76,25 +62,23 @@ fn tell_too_long<W: Write>(writer: &mut W, text: &[u8], number: u32) -> Result<(
     )
 }
 
-fn tell_unclosed<W: Write>(writer: &mut W, text: &[u8], number: u32) -> Result<(), WriteFault> {
-    let open = Open::above(text, number.saturating_add(1));
-    if let Some(block) = open.innermost() {
-        let what: &[u8] = if block.is_repeat {
-            b"The repeat of "
-        } else {
-            b"The send of "
-        };
-        put_source_line(writer, text, block.line)?;
-        say(
+// The text ends, and this is open.
+fn tell_ended<W: Write>(
+    writer: &mut W,
+    text: &[u8],
+    number: u32,
+    above: &Above,
+) -> Result<(), WriteFault> {
+    if let Some(block) = above.innermost() {
+        tell_unclosed(
             writer,
-            &[
-                Said::Text(what),
-                Said::Line(block.line),
-                Said::Text(b" has no done."),
-            ],
+            text,
+            number.saturating_add(1),
+            block,
+            b" has no done.",
         )?;
     }
-    let (what, line): (&[u8], u32) = match open.place {
+    let (what, line): (&[u8], u32) = match above.section {
         Section::Script(line) => (b"The script of ", line),
         Section::Plan(line) => (b"The plan of ", line),
         Section::Top | Section::Outside => return Ok(()),

@@ -1,11 +1,10 @@
 //! Names and keys that are not declared, and what is said again.
 
 use crate::declared::{declaration, is_declared, keys_line, line_of, nearest_key, nearest_name};
-use crate::saying::{Said, say};
-use crate::slots::option_key;
-use crate::words::{Placed, Words, is, key_in, word_at, words_in};
+use pr_lines::key_or_zero;
 use pr_output::{WriteFault, put};
-use pr_words::{line_in, put_carets, put_source_line};
+use pr_slips::{Placed, Said, Words, option_key, put_word_carets, say, word_at, words_in};
+use pr_words::{line_in, put_source_line};
 use std::io::Write;
 
 /// Tells the line of this number, which uses a name that no line above declares, or declares as one of the other kind.
@@ -24,7 +23,7 @@ pub fn tell_unknown<W: Write>(writer: &mut W, text: &[u8], number: u32) -> Resul
 
 // The first name on the line that no line above declares.
 fn unknown_name<'a>(text: &[u8], number: u32, words: &Words<'a>) -> Option<Placed<'a>> {
-    let is_reservation = is(word_at(words, 0), b"reservation");
+    let is_reservation = word_at(words, 0) == b"reservation".as_slice();
     for (place, word) in words.iter().enumerate() {
         let name = if is_reservation {
             holder_in(*word)
@@ -104,7 +103,7 @@ fn tell_wrong_kind<W: Write>(
     if let Some(word) = words.get(1) {
         put_word_carets(writer, number, line, *word)?;
     }
-    let kind: &[u8] = if is(word_at(words, 0), b"plan") {
+    let kind: &[u8] = if word_at(words, 0) == b"plan".as_slice() {
         b" is a host: only a guest has a plan, and a host a script."
     } else {
         b" is a guest: only a host has a script, and a guest a plan."
@@ -188,7 +187,7 @@ fn undeclared_key<'a>(text: &[u8], number: u32, words: &Words<'a>) -> Option<Pla
         let Some(key) = key_of(*word, place >= from) else {
             continue;
         };
-        if let Some(number_of_key) = key_in(key.text)
+        if let Some(number_of_key) = key_or_zero(key.text)
             && !is_declared(text, number, number_of_key)
         {
             return Some(key);
@@ -264,16 +263,5 @@ fn second_time<'a>(words: &Words<'a>) -> Option<Placed<'a>> {
 }
 
 fn is_same(one: &[u8], other: &[u8]) -> bool {
-    one == other || (key_in(one).is_some() && key_in(one) == key_in(other))
-}
-
-/// Writes carets below the word.
-pub fn put_word_carets<W: Write>(
-    writer: &mut W,
-    number: u32,
-    line: &[u8],
-    word: Placed<'_>,
-) -> Result<(), WriteFault> {
-    let end = word.first.saturating_add(word.text.len());
-    put_carets(writer, number, line, word.first, end)
+    one == other || (key_or_zero(one).is_some() && key_or_zero(one) == key_or_zero(other))
 }

@@ -2,6 +2,7 @@ pub mod Chain
 pub mod TextLines
 pub mod WordTerms
 pub mod Lookups
+pub mod Keywords
 pub mod CommandOptions
 pub mod CommandWords
 pub mod Clauses

@@ -1,13 +1,15 @@
 //! The clauses of roles, and the arms of sends.
 
 ghost use Rattle.std.specs.Prelude.{◌≡◌, option_map};
+ghost use Rattle.std.specs.Result.{result_ok};
 ghost use Rattle.pr_roles.specs.declared.role.Action.TheVariants as action;
 ghost use Rattle.pr_lines.specs.TextLines.{words, if_alone};
 ghost use Rattle.pr_lines.specs.WordTerms.{key_of, kind_of};
 ghost use Rattle.pr_lines.specs.Clauses.{acting_on, preempt_of, action_named, action_in, condition_in, clause_of, good_of, test_of};
 
-use crate::cutting::{is, is_end, next_word, only};
+use crate::cutting::{alone, ended, is, next_word, word_in};
 use crate::lookup::lookup;
+use crate::misfit::{Misfit, Wanted};
 use crate::terms::{key_of, key_or_zero, kind_of, sense_of};
 use pr_roles::{Action, Clause, Condition};
 use pr_script::Test;
@@ -29,25 +31,26 @@ pub const CONDITIONS: [(&[u8], Condition); 3] = [
 ];
 
 /// The clause that the line's words are.
-pub fn clause_of(line: &[u8]) -> Option<Clause>
-    ensures { result ≡ clause_of (words line.now) }
+pub fn clause_of(line: &[u8]) -> Result<Clause, Misfit>
+    ensures { result_ok result ≡ clause_of (words line.now) }
 {
     let (action, rest) = action_in(line)?;
     let condition = condition_in(rest)?;
-    Some(Clause { action, condition })
+    Ok(Clause { action, condition })
 }
 
 // The action that the line begins with, and what stands behind it.
-fn action_in(line: &[u8]) -> Option<(Action, &[u8])>
-    ensures { option_map (λ r. (r.0, words r.1.now)) result ≡ action_in (words line.now) }
+fn action_in(line: &[u8]) -> Result<(Action, &[u8]), Misfit>
+    ensures { option_map (λ r. (r.0, words r.1.now)) (result_ok result)
+        ≡ action_in (words line.now) }
 {
-    let (word, rest) = next_word(line)?;
+    let (word, rest) = word_in(line, Wanted::Action)?;
     action_named(word, rest)
 }
 
 #[tactic(auto, unfolding(crate::specs::Clauses::action_named))]
-fn action_named<'a>(word: &[u8], rest: &'a [u8]) -> Option<(Action, &'a [u8])>
-    ensures { option_map (λ r. (r.0, words r.1.now)) result
+fn action_named<'a>(word: &[u8], rest: &'a [u8]) -> Result<(Action, &'a [u8]), Misfit>
+    ensures { option_map (λ r. (r.0, words r.1.now)) (result_ok result)
         ≡ action_named word.now (words rest.now) }
 {
     if is(word, "register") {
@@ -59,63 +62,68 @@ fn action_named<'a>(word: &[u8], rest: &'a [u8]) -> Option<(Action, &'a [u8])>
     if is(word, "preempt") {
         return preempt_of(rest);
     }
-    Some((lookup(&BARE_ACTIONS, word)?, rest))
+    let action = lookup(&BARE_ACTIONS, word).ok_or(Misfit::at(word, rest, Wanted::Action))?;
+    Ok((action, rest))
 }
 
-fn registering(line: &[u8]) -> Option<(Action, &[u8])>
-    ensures { option_map (λ r. (r.0, words r.1.now)) result
+fn registering(line: &[u8]) -> Result<(Action, &[u8]), Misfit>
+    ensures { option_map (λ r. (r.0, words r.1.now)) (result_ok result)
         ≡ acting_on (λ key. action.Register key) key_of (words line.now) }
 {
-    let (word, rest) = next_word(line)?;
-    let key = key_of(word)?;
-    Some((Action::Register(key), rest))
+    let (word, rest) = word_in(line, Wanted::Key)?;
+    let key = key_of(word).ok_or(Misfit::at(word, rest, Wanted::Key))?;
+    Ok((Action::Register(key), rest))
 }
 
-fn reserving(line: &[u8]) -> Option<(Action, &[u8])>
-    ensures { option_map (λ r. (r.0, words r.1.now)) result
+fn reserving(line: &[u8]) -> Result<(Action, &[u8]), Misfit>
+    ensures { option_map (λ r. (r.0, words r.1.now)) (result_ok result)
         ≡ acting_on (λ kind. action.Reserve kind) kind_of (words line.now) }
 {
-    let (word, rest) = next_word(line)?;
-    let kind = kind_of(word)?;
-    Some((Action::Reserve(kind), rest))
+    let (word, rest) = word_in(line, Wanted::Kind)?;
+    let kind = kind_of(word).ok_or(Misfit::at(word, rest, Wanted::Kind))?;
+    Ok((Action::Reserve(kind), rest))
 }
 
-fn preempt_of(line: &[u8]) -> Option<(Action, &[u8])>
-    ensures { option_map (λ r. (r.0, words r.1.now)) result ≡ preempt_of (words line.now) }
+fn preempt_of(line: &[u8]) -> Result<(Action, &[u8]), Misfit>
+    ensures { option_map (λ r. (r.0, words r.1.now)) (result_ok result)
+        ≡ preempt_of (words line.now) }
 {
-    let (word, rest) = next_word(line)?;
-    let key = key_or_zero(word)?;
+    let (word, rest) = word_in(line, Wanted::KeyOrZero)?;
+    let key = key_or_zero(word).ok_or(Misfit::at(word, rest, Wanted::KeyOrZero))?;
     preempting_with(key, rest)
 }
 
-fn preempting_with(key: u64, line: &[u8]) -> Option<(Action, &[u8])>
-    ensures { option_map (λ r. (r.0, words r.1.now)) result
+fn preempting_with(key: u64, line: &[u8]) -> Result<(Action, &[u8]), Misfit>
+    ensures { option_map (λ r. (r.0, words r.1.now)) (result_ok result)
         ≡ acting_on (λ kind. action.Preempt key kind) kind_of (words line.now) }
 {
-    let (word, rest) = next_word(line)?;
-    let kind = kind_of(word)?;
-    Some((Action::Preempt(key, kind), rest))
+    let (word, rest) = word_in(line, Wanted::Kind)?;
+    let kind = kind_of(word).ok_or(Misfit::at(word, rest, Wanted::Kind))?;
+    Ok((Action::Preempt(key, kind), rest))
 }
 
 // The condition that the line's words are, if there are any.
-fn condition_in(line: &[u8]) -> Option<Option<Condition>>
-    ensures { result ≡ condition_in (words line.now) }
+#[tactic(auto, using(crate::proofs::lemmas::TextLines::Cuts::only_read))]
+fn condition_in(line: &[u8]) -> Result<Option<Condition>, Misfit>
+    ensures { result_ok result ≡ condition_in (words line.now) }
 {
     let Some((word, rest)) = next_word(line) else {
-        return Some(None);
+        return Ok(None);
     };
     if !is(word, "if") {
-        return None;
+        return Err(Misfit::at(word, rest, Wanted::If));
     }
-    let condition = lookup(&CONDITIONS, only(rest)?)?;
-    Some(Some(condition))
+    let (word, rest) = word_in(rest, Wanted::Condition)?;
+    let condition = alone(lookup(&CONDITIONS, word), word, rest, Wanted::Condition)?;
+    Ok(Some(condition))
 }
 
 /// What the arm asks that the line's words are.
-pub fn test_of(line: &[u8]) -> Option<Test>
-    ensures { result ≡ test_of (words line.now) }
+#[tactic(auto, using(crate::proofs::lemmas::TextLines::Cuts::only_read))]
+pub fn test_of(line: &[u8]) -> Result<Test, Misfit>
+    ensures { result_ok result ≡ test_of (words line.now) }
 {
-    let (word, rest) = next_word(line)?;
+    let (word, rest) = word_in(line, Wanted::Arm)?;
     if is(word, "good") {
         return good_of(rest);
     }
@@ -132,35 +140,37 @@ pub fn test_of(line: &[u8]) -> Option<Test>
         return if_alone(Test::Attention, rest);
     }
     if is(word, "sense") {
-        let sense = sense_of(only(rest)?)?;
-        return Some(Test::Sense(sense));
+        let (word, rest) = word_in(rest, Wanted::Sense)?;
+        return alone(sense_of(word), word, rest, Wanted::Sense).map(Test::Sense);
     }
-    None
+    Err(Misfit::at(word, rest, Wanted::Arm))
 }
 
-fn good_of(line: &[u8]) -> Option<Test>
-    ensures { result ≡ good_of (words line.now) }
+#[tactic(auto, using(crate::proofs::lemmas::TextLines::Cuts::only_read))]
+fn good_of(line: &[u8]) -> Result<Test, Misfit>
+    ensures { result_ok result ≡ good_of (words line.now) }
 {
     let Some((word, rest)) = next_word(line) else {
-        return Some(Test::Good);
+        return Ok(Test::Good);
     };
     if is(word, "has") {
-        let key = key_of(only(rest)?)?;
-        return Some(Test::GoodHas(key));
+        let (word, rest) = word_in(rest, Wanted::Key)?;
+        return alone(key_of(word), word, rest, Wanted::Key).map(Test::GoodHas);
     }
     if is(word, "held") {
-        let key = key_or_zero(only(rest)?)?;
-        return Some(Test::GoodHeld(key));
+        let (word, rest) = word_in(rest, Wanted::KeyOrZero)?;
+        return alone(key_or_zero(word), word, rest, Wanted::KeyOrZero).map(Test::GoodHeld);
     }
     if is(word, "unheld") {
         return if_alone(Test::GoodUnheld, rest);
     }
-    None
+    Err(Misfit::at(word, rest, Wanted::Good))
 }
 
 // The test, if no word follows it.
-fn if_alone(test: Test, rest: &[u8]) -> Option<Test>
-    ensures { result ≡ if_alone test (words rest.now) }
+fn if_alone(test: Test, rest: &[u8]) -> Result<Test, Misfit>
+    ensures { result_ok result ≡ if_alone test (words rest.now) }
 {
-    if is_end(rest) { Some(test) } else { None }
+    ended(rest)?;
+    Ok(test)
 }

@@ -1,9 +1,12 @@
 //! Cutting a text into lines, and a line into words.
 
-ghost use Rattle.std.specs.Prelude.{◌≡◌, ◌<◌, [], ◌∷◌, length, MatchOption, IfSome, position, option_copied, bytes_eq, nat_le, ◌==◌, ◌&&◌, ◌||◌};
+ghost use Rattle.std.specs.Prelude.{◌≡◌, ◌<◌, [], ◌∷◌, length, if◌then◌else◌, None, MatchOption, IfSome, is_ok, position, option_copied, bytes_eq, nat_le, ◌==◌, ◌&&◌, ◌||◌};
+ghost use Rattle.std.specs.Result.{result_ok};
 ghost use Rattle.std.specs.List.{before_first, after_first};
 ghost use Rattle.std.specs.Str.Lines.{lines, strip_carriage_return};
 ghost use Rattle.pr_lines.specs.TextLines.{is_text, is_blank, words, only, is_end};
+
+use crate::misfit::{Misfit, Wanted};
 
 const LINE_FEED: u8 = b'\n';
 
@@ -113,12 +116,45 @@ pub fn is(word: &[u8], text: &str) -> bool
     word == text.as_bytes()
 }
 
-/// The line's one word, where it has just one.
-pub fn only(line: &[u8]) -> Option<&[u8]>
-    ensures { option_copied result ≡ only (words line.now) }
+/// The first word of the line, and what stands after it, or that this is missing.
+pub fn word_in(line: &[u8], wanted: Wanted) -> Result<(&[u8], &[u8]), Misfit>
+    ensures { MatchOption (result_ok result) (words line.now ≡ [])
+        (λ r. words line.now ≡ r.0.now ∷ words r.1.now) }
 {
-    let (word, rest) = next_word(line)?;
-    if is_end(rest) { Some(word) } else { None }
+    next_word(line).ok_or(Misfit::missing(wanted))
+}
+
+/// The line's one word, where it has just one; this was wanted.
+pub fn only(line: &[u8], wanted: Wanted) -> Result<&[u8], Misfit>
+    ensures { option_copied (result_ok result) ≡ only (words line.now) }
+{
+    let (word, rest) = word_in(line, wanted)?;
+    ended(rest)?;
+    Ok(word)
+}
+
+/// That the line has no word, or the one that it has.
+pub fn ended(line: &[u8]) -> Result<(), Misfit>
+    ensures { is_ok result ≡ is_end (words line.now) }
+{
+    match next_word(line) {
+        Some((word, rest)) => Err(Misfit::at(word, rest, Wanted::End)),
+        None => Ok(()),
+    }
+}
+
+/// What the word is, where it is something and no word follows it; this was wanted.
+pub fn alone<T: Drop>(
+    term: Option<T>,
+    word: &[u8],
+    rest: &[u8],
+    wanted: Wanted,
+) -> Result<T, Misfit>
+    ensures { result_ok result ≡ (if is_end (words rest.now) then term else None) }
+{
+    let term = term.ok_or(Misfit::at(word, rest, wanted))?;
+    ended(rest)?;
+    Ok(term)
 }
 
 /// Whether the line has no word.

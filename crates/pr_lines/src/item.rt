@@ -1,17 +1,19 @@
 //! What one line of a text says.
 
-ghost use Rattle.std.specs.Prelude.{◌≡◌, map, option_map, IfOk};
-ghost use Rattle.pr_lines.specs.TextLines.{words, if_alone};
-ghost use Rattle.pr_lines.specs.WordTerms.{key_of, code_of};
+ghost use Rattle.std.specs.Prelude.{◌≡◌, map, option_map, option_and_then, IfOk};
+ghost use Rattle.std.specs.Result.{result_ok};
+ghost use Rattle.pr_lines.specs.TextLines.{words, only, if_alone};
+ghost use Rattle.pr_lines.specs.WordTerms.{key_of, generation_of, code_of};
 ghost use Rattle.pr_lines.specs.Clauses.{clause_of};
 ghost use Rattle.pr_lines.specs.ScenarioLines.{list_of, alternative_of, everybody_of, single_of, start_reservation_of, name_in, only_name, only_count, budget_in, parse_fence, parse_of_name, item_of, declares, keys_line, start_line, pending_line, refusals_line, reservation_line, role_line, script_line};
 ghost use Rattle.pr_lines.specs.inside.Keywords.{parse_plain, parse_after};
 ghost use Rattle.pr_lines.specs.LineValues.{wanted_seen, line_of_value};
 
 use crate::clauses::{clause_of, test_of};
-use crate::cutting::{is, is_end, next_word, only};
+use crate::cutting::{alone, ended, is, is_end, next_word, word_in};
 use crate::keyword::{Keyword, keyword_of};
 use crate::lookup::lookup;
+use crate::misfit::{Misfit, Wanted};
 use crate::spelling::{ParsedCommand, spelled_in, spelled_of};
 use crate::terms::{code_of, count_of, generation_of, key_of, kind_of, name_of};
 use crate::versions::VERSIONS;
@@ -93,14 +95,18 @@ pub enum ScenarioLine {
     Command(ParsedCommand),
 }
 
-/// What the line says that begins with the word and goes on with `rest`, or nothing where it does not keep its
-/// shape (docs/FORMATS.md, 'The lines of a scenario', 'Statements' and 'COMMAND').
+/// What the line says that begins with the word and goes on with `rest`, or where it does not keep its shape
+/// (docs/FORMATS.md, 'The lines of a scenario', 'Statements' and 'COMMAND').
 ///
 /// A line whose first word is none of those that lines begin with is a command of a plan. The one error is want of
 /// memory for a list.
 #[tactic(auto, using(crate::proofs::lemmas::ScenarioLines::Words::by_keyword))]
-pub fn item_of(alloc: Global, word: &[u8], rest: &[u8]) -> Result<Option<ScenarioLine>, AllocError>
-    ensures { IfOk result (λ item. option_map line_of_value item
+pub fn item_of(
+    alloc: Global,
+    word: &[u8],
+    rest: &[u8],
+) -> Result<Result<ScenarioLine, Misfit>, AllocError>
+    ensures { IfOk result (λ item. option_map line_of_value (result_ok item)
         ≡ item_of word.now (words rest.now)) }
 {
     match keyword_of(word) {
@@ -114,8 +120,8 @@ fn parse_after(
     alloc: Global,
     keyword: Keyword,
     rest: &[u8],
-) -> Result<Option<ScenarioLine>, AllocError>
-    ensures { IfOk result (λ item. option_map line_of_value item
+) -> Result<Result<ScenarioLine, Misfit>, AllocError>
+    ensures { IfOk result (λ item. option_map line_of_value (result_ok item)
         ≡ parse_after keyword (words rest.now)) }
 {
     match keyword {
@@ -128,149 +134,174 @@ fn parse_after(
 }
 
 // What the words behind a keyword say that takes no list.
-fn parse_plain(keyword: Keyword, rest: &[u8]) -> Option<ScenarioLine>
-    ensures { option_map line_of_value result ≡ parse_plain keyword (words rest.now) }
+fn parse_plain(keyword: Keyword, rest: &[u8]) -> Result<ScenarioLine, Misfit>
+    ensures { option_map line_of_value (result_ok result) ≡ parse_plain keyword (words rest.now) }
 {
     match keyword {
         Keyword::Fence => parse_fence(rest),
-        Keyword::Host => Some(ScenarioLine::Host(only_name(rest)?)),
-        Keyword::Guest => Some(ScenarioLine::Guest(only_name(rest)?)),
+        Keyword::Host => Ok(ScenarioLine::Host(only_name(rest)?)),
+        Keyword::Guest => Ok(ScenarioLine::Guest(only_name(rest)?)),
         Keyword::Busy => parse_refusals(RefusalKind::Busy, rest),
         Keyword::Full => parse_refusals(RefusalKind::Full, rest),
-        Keyword::Generation => Some(ScenarioLine::Generation(generation_of(only(rest)?)?)),
-        Keyword::Resets => Some(ScenarioLine::Resets(only_count(rest)?)),
+        Keyword::Generation => Ok(ScenarioLine::Generation(only_generation(rest)?)),
+        Keyword::Resets => Ok(ScenarioLine::Resets(only_count(rest)?)),
         Keyword::Role => parse_role(rest),
         Keyword::Script => parse_script(rest),
-        Keyword::Plan => Some(ScenarioLine::Plan(only_name(rest)?)),
+        Keyword::Plan => Ok(ScenarioLine::Plan(only_name(rest)?)),
         Keyword::End => if_alone(ScenarioLine::End, rest),
-        Keyword::Send => Some(ScenarioLine::Send(spelled_in(rest)?)),
-        Keyword::On => Some(ScenarioLine::On(test_of(rest)?)),
+        Keyword::Send => Ok(ScenarioLine::Send(spelled_in(rest)?)),
+        Keyword::On => Ok(ScenarioLine::On(test_of(rest)?)),
         Keyword::Done => if_alone(ScenarioLine::Done, rest),
-        Keyword::Repeat => Some(ScenarioLine::Repeat(only_count(rest)?)),
+        Keyword::Repeat => Ok(ScenarioLine::Repeat(only_count(rest)?)),
         Keyword::Break => if_alone(ScenarioLine::Break, rest),
-        Keyword::Stop => Some(ScenarioLine::Stop(only_name(rest)?)),
-        Keyword::Keys | Keyword::Start | Keyword::Pending | Keyword::Reservation => None,
+        Keyword::Stop => Ok(ScenarioLine::Stop(only_name(rest)?)),
+        Keyword::Keys | Keyword::Start | Keyword::Pending | Keyword::Reservation => {
+            Err(Misfit::missing(Wanted::End))
+        }
     }
 }
 
 // The item, if no word follows it.
-fn if_alone(item: ScenarioLine, rest: &[u8]) -> Option<ScenarioLine>
-    ensures { option_map line_of_value result ≡ if_alone (line_of_value item) (words rest.now) }
+fn if_alone(item: ScenarioLine, rest: &[u8]) -> Result<ScenarioLine, Misfit>
+    ensures { option_map line_of_value (result_ok result)
+        ≡ if_alone (line_of_value item) (words rest.now) }
 {
-    if is_end(rest) { Some(item) } else { None }
+    ended(rest)?;
+    Ok(item)
 }
 
-fn parse_fence(rest: &[u8]) -> Option<ScenarioLine>
-    ensures { option_map line_of_value result ≡ parse_fence (words rest.now) }
+#[tactic(auto, using(crate::proofs::lemmas::TextLines::Cuts::only_read))]
+fn parse_fence(line: &[u8]) -> Result<ScenarioLine, Misfit>
+    ensures { option_map line_of_value (result_ok result) ≡ parse_fence (words line.now) }
 {
-    let version = lookup(&VERSIONS, only(rest)?)?;
-    Some(ScenarioLine::Fence(version))
+    let (word, rest) = word_in(line, Wanted::Version)?;
+    let version = alone(lookup(&VERSIONS, word), word, rest, Wanted::Version)?;
+    Ok(ScenarioLine::Fence(version))
 }
 
-fn parse_refusals(refusal: RefusalKind, rest: &[u8]) -> Option<ScenarioLine>
-    ensures { option_map line_of_value result
+fn parse_refusals(refusal: RefusalKind, rest: &[u8]) -> Result<ScenarioLine, Misfit>
+    ensures { option_map line_of_value (result_ok result)
         ≡ parse_of_name (λ name count. declares (refusals_line refusal name count)) only_count
         (words rest.now) }
 {
-    let Some((name, others)) = name_in(rest) else {
-        return None;
+    let (name, others) = match name_in(rest) {
+        Ok(found) => found,
+        Err(misfit) => return Err(misfit),
     };
     let count = only_count(others)?;
-    Some(ScenarioLine::Refusals(refusal, name, count))
+    Ok(ScenarioLine::Refusals(refusal, name, count))
 }
 
-fn parse_role(rest: &[u8]) -> Option<ScenarioLine>
-    ensures { option_map line_of_value result
+fn parse_role(rest: &[u8]) -> Result<ScenarioLine, Misfit>
+    ensures { option_map line_of_value (result_ok result)
         ≡ parse_of_name (λ name clause. declares (role_line name clause)) clause_of
         (words rest.now) }
 {
-    let Some((name, others)) = name_in(rest) else {
-        return None;
+    let (name, others) = match name_in(rest) {
+        Ok(found) => found,
+        Err(misfit) => return Err(misfit),
     };
     let clause = clause_of(others)?;
-    Some(ScenarioLine::Role(name, clause))
+    Ok(ScenarioLine::Role(name, clause))
 }
 
-fn parse_script(rest: &[u8]) -> Option<ScenarioLine>
-    ensures { option_map line_of_value result
+fn parse_script(rest: &[u8]) -> Result<ScenarioLine, Misfit>
+    ensures { option_map line_of_value (result_ok result)
         ≡ parse_of_name (λ name budget. declares (script_line name budget)) budget_in
         (words rest.now) }
 {
-    let Some((name, others)) = name_in(rest) else {
-        return None;
+    let (name, others) = match name_in(rest) {
+        Ok(found) => found,
+        Err(misfit) => return Err(misfit),
     };
     let budget = budget_in(others)?;
-    Some(ScenarioLine::Script(name, budget))
+    Ok(ScenarioLine::Script(name, budget))
 }
 
-fn budget_in(line: &[u8]) -> Option<u64>
-    ensures { result ≡ budget_in (words line.now) }
+fn budget_in(line: &[u8]) -> Result<u64, Misfit>
+    ensures { result_ok result ≡ budget_in (words line.now) }
 {
-    let (word, rest) = next_word(line)?;
+    let (word, rest) = word_in(line, Wanted::Budget)?;
     if is(word, "budget") {
         only_count(rest)
     } else {
-        None
+        Err(Misfit::at(word, rest, Wanted::Budget))
     }
 }
 
 // The name that the line begins with, and what stands behind it.
-fn name_in(line: &[u8]) -> Option<(Word, &[u8])>
-    ensures { option_map (λ r. (r.0.bytes, words r.1.now)) result ≡ name_in (words line.now) }
+fn name_in(line: &[u8]) -> Result<(Word, &[u8]), Misfit>
+    ensures { option_map (λ r. (r.0.bytes, words r.1.now)) (result_ok result)
+        ≡ name_in (words line.now) }
 {
-    let (word, rest) = next_word(line)?;
-    let name = name_of(word)?;
-    Some((name, rest))
+    let (word, rest) = word_in(line, Wanted::Name)?;
+    let name = name_of(word).ok_or(Misfit::at(word, rest, Wanted::Name))?;
+    Ok((name, rest))
 }
 
 // The name that is the line's one word.
-fn only_name(line: &[u8]) -> Option<Word>
-    ensures { option_map (λ name. name.bytes) result ≡ only_name (words line.now) }
+#[tactic(auto, using(crate::proofs::lemmas::TextLines::Cuts::only_read))]
+fn only_name(line: &[u8]) -> Result<Word, Misfit>
+    ensures { option_map (λ name. name.bytes) (result_ok result) ≡ only_name (words line.now) }
 {
-    name_of(only(line)?)
+    let (word, rest) = word_in(line, Wanted::Name)?;
+    alone(name_of(word), word, rest, Wanted::Name)
 }
 
 // The count that is the line's one word.
-fn only_count(line: &[u8]) -> Option<u64>
-    ensures { result ≡ only_count (words line.now) }
+#[tactic(auto, using(crate::proofs::lemmas::TextLines::Cuts::only_read))]
+fn only_count(line: &[u8]) -> Result<u64, Misfit>
+    ensures { result_ok result ≡ only_count (words line.now) }
 {
-    count_of(only(line)?)
+    let (word, rest) = word_in(line, Wanted::Count)?;
+    alone(count_of(word), word, rest, Wanted::Count)
 }
 
-fn parse_keys(alloc: Global, rest: &[u8]) -> Result<Option<ScenarioLine>, AllocError>
-    ensures { IfOk result (λ item. option_map line_of_value item
+// The generation that is the line's one word.
+#[tactic(auto, using(crate::proofs::lemmas::TextLines::Cuts::only_read))]
+fn only_generation(line: &[u8]) -> Result<u32, Misfit>
+    ensures { result_ok result ≡ option_and_then generation_of (only (words line.now)) }
+{
+    let (word, rest) = word_in(line, Wanted::Generation)?;
+    alone(generation_of(word), word, rest, Wanted::Generation)
+}
+
+fn parse_keys(alloc: Global, rest: &[u8]) -> Result<Result<ScenarioLine, Misfit>, AllocError>
+    ensures { IfOk result (λ item. option_map line_of_value (result_ok item)
         ≡ option_map (λ keys. declares (keys_line keys)) (list_of key_of (words rest.now))) }
 {
     let keys = keys_in(alloc, rest)?;
     Ok(keys.map(ScenarioLine::Keys))
 }
 
-fn parse_start(alloc: Global, rest: &[u8]) -> Result<Option<ScenarioLine>, AllocError>
-    ensures { IfOk result (λ item. option_map line_of_value item
+fn parse_start(alloc: Global, rest: &[u8]) -> Result<Result<ScenarioLine, Misfit>, AllocError>
+    ensures { IfOk result (λ item. option_map line_of_value (result_ok item)
         ≡ parse_of_name (λ name xs. declares (start_line name xs)) (list_of alternative_of)
         (words rest.now)) }
 {
-    let Some((name, others)) = name_in(rest) else {
-        return Ok(None);
+    let (name, others) = match name_in(rest) {
+        Ok(found) => found,
+        Err(misfit) => return Ok(Err(misfit)),
     };
     let alternatives = alternatives_in(alloc, others)?;
     Ok(alternatives.map(|alternatives| ScenarioLine::Start(name, alternatives)))
 }
 
-fn parse_pending(alloc: Global, rest: &[u8]) -> Result<Option<ScenarioLine>, AllocError>
-    ensures { IfOk result (λ item. option_map line_of_value item
+fn parse_pending(alloc: Global, rest: &[u8]) -> Result<Result<ScenarioLine, Misfit>, AllocError>
+    ensures { IfOk result (λ item. option_map line_of_value (result_ok item)
         ≡ parse_of_name (λ name xs. declares (pending_line name xs)) (list_of code_of)
         (words rest.now)) }
 {
-    let Some((name, others)) = name_in(rest) else {
-        return Ok(None);
+    let (name, others) = match name_in(rest) {
+        Ok(found) => found,
+        Err(misfit) => return Ok(Err(misfit)),
     };
     let attentions = attentions_in(alloc, others)?;
     Ok(attentions.map(|attentions| ScenarioLine::Pending(name, attentions)))
 }
 
-fn parse_reservation(alloc: Global, rest: &[u8]) -> Result<Option<ScenarioLine>, AllocError>
-    ensures { IfOk result (λ item. option_map line_of_value item
+fn parse_reservation(alloc: Global, rest: &[u8]) -> Result<Result<ScenarioLine, Misfit>, AllocError>
+    ensures { IfOk result (λ item. option_map line_of_value (result_ok item)
         ≡ option_map (λ xs. declares (reservation_line xs))
         (list_of start_reservation_of (words rest.now))) }
 {
@@ -279,43 +310,46 @@ fn parse_reservation(alloc: Global, rest: &[u8]) -> Result<Option<ScenarioLine>,
 }
 
 #[tactic(auto, using(crate::proofs::lemmas::Chain::Lists::each_same))]
-fn keys_in(alloc: Global, line: &[u8]) -> Result<Option<Vec<u64>>, AllocError>
-    ensures { IfOk result (λ keys. option_map (λ v. v.items) keys
+fn keys_in(alloc: Global, line: &[u8]) -> Result<Result<Vec<u64>, Misfit>, AllocError>
+    ensures { IfOk result (λ keys. option_map (λ v. v.items) (result_ok keys)
         ≡ list_of key_of (words line.now)) }
 {
     if is_end(line) {
-        return Ok(None);
+        return Ok(Err(Misfit::missing(Wanted::Key)));
     }
     let mut keys = Vec::new(alloc);
     let mut rest = line;
     while let Some((word, others)) = next_word(rest) {
         let Some(key) = key_of(word) else {
-            return Ok(None);
+            return Ok(Err(Misfit::at(word, others, Wanted::Key)));
         };
         keys.push(key)?;
         rest = others;
     }
-    Ok(Some(keys))
+    Ok(Ok(keys))
 }
 
 #[tactic(auto, using(crate::proofs::lemmas::Chain::Lists::each_same))]
-fn alternatives_in(alloc: Global, line: &[u8]) -> Result<Option<Vec<Option<u64>>>, AllocError>
-    ensures { IfOk result (λ xs. option_map (λ v. v.items) xs
+fn alternatives_in(
+    alloc: Global,
+    line: &[u8],
+) -> Result<Result<Vec<Option<u64>>, Misfit>, AllocError>
+    ensures { IfOk result (λ xs. option_map (λ v. v.items) (result_ok xs)
         ≡ list_of alternative_of (words line.now)) }
 {
     if is_end(line) {
-        return Ok(None);
+        return Ok(Err(Misfit::missing(Wanted::Alternative)));
     }
     let mut alternatives = Vec::new(alloc);
     let mut rest = line;
     while let Some((word, others)) = next_word(rest) {
         let Some(alternative) = alternative_of(word) else {
-            return Ok(None);
+            return Ok(Err(Misfit::at(word, others, Wanted::Alternative)));
         };
         alternatives.push(alternative)?;
         rest = others;
     }
-    Ok(Some(alternatives))
+    Ok(Ok(alternatives))
 }
 
 fn alternative_of(word: &[u8]) -> Option<Option<u64>>
@@ -329,42 +363,46 @@ fn alternative_of(word: &[u8]) -> Option<Option<u64>>
 }
 
 #[tactic(auto, using(crate::proofs::lemmas::Chain::Lists::each_same))]
-fn attentions_in(alloc: Global, line: &[u8]) -> Result<Option<Vec<Attention>>, AllocError>
-    ensures { IfOk result (λ xs. option_map (λ v. v.items) xs ≡ list_of code_of (words line.now)) }
+fn attentions_in(alloc: Global, line: &[u8]) -> Result<Result<Vec<Attention>, Misfit>, AllocError>
+    ensures { IfOk result (λ xs. option_map (λ v. v.items) (result_ok xs)
+        ≡ list_of code_of (words line.now)) }
 {
     if is_end(line) {
-        return Ok(None);
+        return Ok(Err(Misfit::missing(Wanted::Attention)));
     }
     let mut attentions = Vec::new(alloc);
     let mut rest = line;
     while let Some((word, others)) = next_word(rest) {
         let Some(attention) = code_of(word) else {
-            return Ok(None);
+            return Ok(Err(Misfit::at(word, others, Wanted::Attention)));
         };
         attentions.push(attention)?;
         rest = others;
     }
-    Ok(Some(attentions))
+    Ok(Ok(attentions))
 }
 
 #[tactic(auto, using(crate::proofs::lemmas::Chain::Lists::each_same))]
-fn wanted_in(alloc: Global, line: &[u8]) -> Result<Option<Vec<StartReservation>>, AllocError>
-    ensures { IfOk result (λ xs. option_map (λ v. map wanted_seen v.items) xs
+fn wanted_in(
+    alloc: Global,
+    line: &[u8],
+) -> Result<Result<Vec<StartReservation>, Misfit>, AllocError>
+    ensures { IfOk result (λ xs. option_map (λ v. map wanted_seen v.items) (result_ok xs)
         ≡ list_of start_reservation_of (words line.now)) }
 {
     if is_end(line) {
-        return Ok(None);
+        return Ok(Err(Misfit::missing(Wanted::Reservation)));
     }
     let mut all = Vec::new(alloc);
     let mut rest = line;
     while let Some((word, others)) = next_word(rest) {
         let Some(wanted) = start_reservation_of(word) else {
-            return Ok(None);
+            return Ok(Err(Misfit::at(word, others, Wanted::Reservation)));
         };
         all.push(wanted)?;
         rest = others;
     }
-    Ok(Some(all))
+    Ok(Ok(all))
 }
 
 // The reservation that the word is.

@@ -1,7 +1,7 @@
 //! The words that lines begin with.
 
 ghost use Rattle.std.specs.Prelude.{◌≡◌};
-ghost use Rattle.pr_lines.specs.inside.Keywords.{keyword_of};
+ghost use Rattle.pr_lines.specs.Keywords.{keyword_of};
 
 use crate::lookup::lookup;
 
@@ -57,7 +57,7 @@ pub const KEYWORDS: [(&[u8], Keyword); 21] = [
 ];
 
 /// The keyword that the word is.
-#[tactic(auto, unfolding(crate::specs::inside::Keywords::keyword_of))]
+#[tactic(auto, unfolding(crate::specs::Keywords::keyword_of))]
 pub fn keyword_of(word: &[u8]) -> Option<Keyword>
     ensures { result ≡ keyword_of word.now }
 {

@@ -11,11 +11,17 @@ mod cutting;
 mod item;
 mod keyword;
 mod lookup;
+mod misfit;
 mod options;
 mod spelling;
 mod terms;
 mod versions;
 
+pub use clauses::{BARE_ACTIONS, CONDITIONS};
 pub use cutting::{is_text, next_line, next_word};
 pub use item::{RefusalKind, ScenarioLine, StartReservation, item_of};
+pub use keyword::{KEYWORDS, Keyword, keyword_of};
+pub use misfit::{Misfit, Wanted};
+pub use options::{ACTIONS, DIRECTIONS};
 pub use spelling::ParsedCommand;
+pub use terms::key_or_zero;

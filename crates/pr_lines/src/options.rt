@@ -1,11 +1,13 @@
 //! The options that spell a PERSISTENT RESERVE command.
 
-ghost use Rattle.std.specs.Prelude.{◌≡◌, ◌∷◌};
+ghost use Rattle.std.specs.Prelude.{◌≡◌, ◌∷◌, option_and_then};
+ghost use Rattle.std.specs.Result.{result_ok};
 ghost use Rattle.pr_lines.specs.TextLines.{words};
 ghost use Rattle.pr_lines.specs.CommandOptions.{key_after, option_of, with_option, with_options, no_option, command_in, command_out, command_of};
 
 use crate::cutting::next_word;
 use crate::lookup::lookup;
+use crate::misfit::{Misfit, Wanted};
 use crate::terms::{key_or_zero, kind_of, value_after};
 use pr_cdb::{Command, Kind};
 use pr_script::WRITTEN_LENGTH;
@@ -98,6 +100,7 @@ pub struct Written {
 
 impl Written {
     ghost use Rattle.std.specs.Prelude.{◌≡◌, ◌&&◌, is_none};
+    ghost use Rattle.std.specs.Result.{result_ok};
     ghost use Rattle.pr_lines.specs.TextLines.{words};
     ghost use Rattle.pr_lines.specs.CommandOptions.{no_option, with_option, with_options, command_of};
 
@@ -142,37 +145,49 @@ impl Written {
 
     /// The command that the options spell.
     #[tactic(auto, unfolding(crate::specs::CommandOptions::command_of))]
-    pub fn command(&self) -> Option<Command>
-        ensures { result ≡ command_of self.now }
+    pub fn command(&self) -> Result<Command, Misfit>
+        ensures { result_ok result ≡ command_of self.now }
     {
-        let direction = self.direction?;
-        let action = self.action?;
+        let direction = self.direction.ok_or(Misfit::missing(Wanted::Direction))?;
+        let action = self.action.ok_or(Misfit::missing(Wanted::ServiceAction))?;
         match (direction, action) {
-            (Direction::In, ServiceAction::In(action)) if self.is_bare() => Some(command_in(
-                action,
-            )),
+            (Direction::In, ServiceAction::In(action)) if self.is_bare() => Ok(command_in(action)),
+            (Direction::In, ServiceAction::In(_)) => Err(Misfit::missing(Wanted::NoParameter)),
             (Direction::Out, ServiceAction::Out(action)) => command_out(
                 action,
                 self.rk.unwrap_or(0),
                 self.sark.unwrap_or(0),
                 self.kind,
-            ),
-            _ => None,
+            )
+            .ok_or(Misfit::missing(Wanted::Type)),
+            (Direction::In, ServiceAction::Out(_)) | (Direction::Out, ServiceAction::In(_)) => {
+                Err(Misfit::missing(Wanted::OtherDirection))
+            }
         }
     }
 }
 
 /// The options that the word and the line's words are.
-pub fn options_of(first: &[u8], line: &[u8]) -> Option<Written>
-    ensures { result ≡ with_options no_option (first.now ∷ words line.now) }
+pub fn options_of(first: &[u8], line: &[u8]) -> Result<Written, Misfit>
+    ensures { result_ok result ≡ with_options no_option (first.now ∷ words line.now) }
 {
-    let mut written = Written::new().with(option_of(first)?)?;
+    let mut written = with_word(Written::new(), first, line, Wanted::Command)?;
     let mut rest = line;
     while let Some((word, others)) = next_word(rest) {
-        written = written.with(option_of(word)?)?;
+        written = with_word(written, word, others, Wanted::Option)?;
         rest = others;
     }
-    Some(written)
+    Ok(written)
+}
+
+// What is written with the option more that the word is; this was wanted.
+fn with_word(written: Written, word: &[u8], rest: &[u8], wanted: Wanted) -> Result<Written, Misfit>
+    ensures { result_ok result ≡ option_and_then (with_option written) (option_of word.now) }
+{
+    let option = option_of(word).ok_or(Misfit::at(word, rest, wanted))?;
+    written
+        .with(option)
+        .ok_or(Misfit::at(word, rest, Wanted::Unsaid))
 }
 
 // The one option that the word is.

@@ -1,10 +1,12 @@
 //! The commands that words spell.
 
 ghost use Rattle.std.specs.Prelude.{◌≡◌};
+ghost use Rattle.std.specs.Result.{result_ok};
 ghost use Rattle.pr_lines.specs.TextLines.{words, if_alone};
 ghost use Rattle.pr_lines.specs.CommandWords.{without_keys, blocks_of, spelled_by, spelled_of, spelled_in};
 
-use crate::cutting::{is, is_end, next_word, only};
+use crate::cutting::{alone, ended, is, word_in};
+use crate::misfit::{Misfit, Wanted};
 use crate::options::{Written, options_of};
 use crate::terms::amount_of;
 use pr_cdb::Command;
@@ -20,17 +22,17 @@ pub struct ParsedCommand {
 }
 
 /// The command that the line's words spell.
-pub fn spelled_in(line: &[u8]) -> Option<ParsedCommand>
-    ensures { result ≡ spelled_in (words line.now) }
+pub fn spelled_in(line: &[u8]) -> Result<ParsedCommand, Misfit>
+    ensures { result_ok result ≡ spelled_in (words line.now) }
 {
-    let (word, rest) = next_word(line)?;
+    let (word, rest) = word_in(line, Wanted::Command)?;
     spelled_of(word, rest)
 }
 
 /// The command that the word and the words after it spell.
 #[tactic(auto, unfolding(crate::specs::CommandWords::spelled_of))]
-pub fn spelled_of(word: &[u8], rest: &[u8]) -> Option<ParsedCommand>
-    ensures { result ≡ spelled_of word.now (words rest.now) }
+pub fn spelled_of(word: &[u8], rest: &[u8]) -> Result<ParsedCommand, Misfit>
+    ensures { result_ok result ≡ spelled_of word.now (words rest.now) }
 {
     if is(word, "test-unit-ready") {
         return keyless_if_alone(Command::TestUnitReady, rest);
@@ -40,11 +42,11 @@ pub fn spelled_of(word: &[u8], rest: &[u8]) -> Option<ParsedCommand>
     }
     if is(word, "read") {
         let (lba, blocks) = blocks_of(rest)?;
-        return Some(without_keys(Command::Read { lba, blocks }));
+        return Ok(without_keys(Command::Read { lba, blocks }));
     }
     if is(word, "write") {
         let (lba, blocks) = blocks_of(rest)?;
-        return Some(without_keys(Command::Write { lba, blocks }));
+        return Ok(without_keys(Command::Write { lba, blocks }));
     }
     spelled_by(options_of(word, rest)?)
 }
@@ -60,32 +62,30 @@ fn without_keys(command: Command) -> ParsedCommand
 }
 
 // The command, if no word follows it.
-fn keyless_if_alone(command: Command, rest: &[u8]) -> Option<ParsedCommand>
-    ensures { result ≡ if_alone (without_keys command) (words rest.now) }
+fn keyless_if_alone(command: Command, rest: &[u8]) -> Result<ParsedCommand, Misfit>
+    ensures { result_ok result ≡ if_alone (without_keys command) (words rest.now) }
 {
-    if is_end(rest) {
-        Some(without_keys(command))
-    } else {
-        None
-    }
+    ended(rest)?;
+    Ok(without_keys(command))
 }
 
 // The address of the first block, and how many blocks.
-fn blocks_of(line: &[u8]) -> Option<(u32, u16)>
-    ensures { result ≡ blocks_of (words line.now) }
+#[tactic(auto, using(crate::proofs::lemmas::TextLines::Cuts::only_read))]
+fn blocks_of(line: &[u8]) -> Result<(u32, u16), Misfit>
+    ensures { result_ok result ≡ blocks_of (words line.now) }
 {
-    let (word, rest) = next_word(line)?;
-    let lba = amount_of(4_294_967_295, word)?;
-    let last = only(rest)?;
-    let blocks = amount_of(65_535, last)?;
-    Some((lba as u32, blocks as u16))
+    let (word, rest) = word_in(line, Wanted::Address)?;
+    let lba = amount_of(4_294_967_295, word).ok_or(Misfit::at(word, rest, Wanted::Address))?;
+    let (last, rest) = word_in(rest, Wanted::Blocks)?;
+    let blocks = alone(amount_of(65_535, last), last, rest, Wanted::Blocks)?;
+    Ok((lba as u32, blocks as u16))
 }
 
-fn spelled_by(written: Written) -> Option<ParsedCommand>
-    ensures { result ≡ spelled_by written }
+fn spelled_by(written: Written) -> Result<ParsedCommand, Misfit>
+    ensures { result_ok result ≡ spelled_by written }
 {
     let command = written.command()?;
-    Some(ParsedCommand {
+    Ok(ParsedCommand {
         command,
         rk: written.rk.unwrap_or(0),
         sark: written.sark.unwrap_or(0),

@@ -2,6 +2,7 @@ pub mod BytesRead
 pub mod ScriptLines
 pub mod Declarations
 pub mod Faults
+pub mod Diagnoses
 pub mod Standing
 pub mod Declaring
 pub mod LineFaults

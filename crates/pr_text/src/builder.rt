@@ -6,6 +6,7 @@ ghost use Rattle.pr_text.specs.LineFaults.{limit_of};
 ghost use Rattle.pr_text.specs.inside.Steps.{Gives};
 ghost use Rattle.pr_text.specs.inside.Chains.{planned_step};
 
+use crate::diagnosis::{Above, Section};
 use crate::draft::{Draft, number_in, pending_of};
 use crate::fault::{ReadError, Which};
 use crate::open_script::{OpenScript, is_spelled};
@@ -30,8 +31,8 @@ pub enum Context {
     /// Outside scripts and plans.
     Outside,
     InScript(OpenScript),
-    /// In the plan of the guest with this number, behind these commands.
-    InPlan(usize, Vec<Command>),
+    /// In the plan of the guest with this number, which begins on this line, behind these commands.
+    InPlan(usize, u32, Vec<Command>),
 }
 
 /// What the lines so far declare.
@@ -79,6 +80,16 @@ impl Builder {
         }
     }
 
+    /// What stands above the next line.
+    pub fn above(&self) -> Above {
+        match &self.place {
+            Context::BeforeAll => Above::nothing(),
+            Context::Outside => Above::within(self.version, Section::Outside),
+            Context::InScript(script) => script.above(self.version),
+            Context::InPlan(_, line, _) => Above::within(self.version, Section::Plan(*line)),
+        }
+    }
+
     /// What is declared with one line more.
     #[tactic(auto, unfolding(crate::specs::inside::Chains::item_taken), using(crate::proofs::lemmas::LineFaults::Order::in_order))]
     pub fn with_item(self, alloc: Global, line: u32, item: ScenarioLine) -> Result<Self, ReadError>
@@ -113,7 +124,9 @@ impl Builder {
             Context::BeforeAll => self.first_line(line, item),
             Context::Outside => self.line_outside(alloc, line, item),
             Context::InScript(script) => self.line_in_script(alloc, line, script, item),
-            Context::InPlan(guest, commands) => self.line_in_plan(line, guest, commands, item),
+            Context::InPlan(guest, begun, commands) => {
+                self.line_in_plan(line, guest, begun, commands, item)
+            }
         }
     }
 
@@ -341,7 +354,7 @@ impl Builder {
         if let Some(fault) = self.nexuses[host].script_fault(line, budget) {
             return Err(fault);
         }
-        self.place = Context::InScript(OpenScript::new(alloc, host, budget as u32));
+        self.place = Context::InScript(OpenScript::new(alloc, line, host, budget as u32));
         Ok(self)
     }
 
@@ -359,7 +372,7 @@ impl Builder {
         if nexus.task.is_some() {
             return Err(ReadError::Repeated { line });
         }
-        self.place = Context::InPlan(guest, Vec::new(alloc));
+        self.place = Context::InPlan(guest, line, Vec::new(alloc));
         Ok(self)
     }
 
@@ -408,6 +421,7 @@ impl Builder {
         mut self,
         line: u32,
         guest: usize,
+        begun: u32,
         commands: Vec<Command>,
         item: ScenarioLine,
     ) -> Result<Self, ReadError>
@@ -418,7 +432,7 @@ impl Builder {
         match item {
             ScenarioLine::Command(spelled) => {
                 let commands = with_command(line, self.declared_keys(), commands, spelled)?;
-                self.place = Context::InPlan(guest, commands);
+                self.place = Context::InPlan(guest, begun, commands);
                 Ok(self)
             }
             ScenarioLine::End => {

@@ -6,6 +6,7 @@
 #![tactic(auto)]
 
 mod builder;
+mod diagnosis;
 mod draft;
 mod ending;
 mod fault;
@@ -15,6 +16,7 @@ mod source;
 mod text;
 mod uniqueness;
 
+pub use diagnosis::{Above, Block, Diagnosis, Section};
 pub use fault::{ReadError, Which};
 pub use laws::{
     scenarios_have_no_fault, scripts_have_no_fault, texts_are_written_once,

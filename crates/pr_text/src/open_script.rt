@@ -8,7 +8,9 @@ ghost use Rattle.pr_script.specs.Trees.{statement_of};
 ghost use Rattle.pr_text.specs.ScriptLines.{statement_lines, block_done};
 ghost use Rattle.pr_text.specs.inside.OpenScripts.{block_by, opener_lines, lines_in};
 
+use crate::diagnosis::{Above, Block, Section};
 use crate::fault::{ReadError, Which};
+use arrayvec::ArrayVec;
 use pr_cdb::Command;
 use pr_lines::{ParsedCommand, ScenarioLine};
 use pr_roles::Word;
@@ -30,6 +32,7 @@ pub struct SendWithoutArm {
 #[derive(Drop)]
 pub enum BlockHead {
     Repeat {
+        line: u32,
         count: u32,
     },
     Arm {
@@ -50,6 +53,8 @@ pub struct OpenBody {
 /// A script that is open.
 #[derive(Drop)]
 pub struct OpenScript {
+    /// The line that it begins on.
+    pub line: u32,
     /// The number of its host.
     pub host: usize,
     pub budget: u32,
@@ -73,7 +78,7 @@ impl OpenScript {
     ghost use Rattle.pr_lines.specs.ScenarioLines.{send_line, on_line, done_line, repeat_line, break_line, stop_line};
 
     /// A script without statements.
-    pub fn new(alloc: Global, host: usize, budget: u32) -> Self
+    pub fn new(alloc: Global, line: u32, host: usize, budget: u32) -> Self
         ensures { open_seen result ≡ record {
           host = host;
           budget = budget;
@@ -84,6 +89,7 @@ impl OpenScript {
         } }
     {
         OpenScript {
+            line,
             host,
             budget,
             statements: 0,
@@ -113,6 +119,26 @@ impl OpenScript {
             ScenarioLine::Break => self.break_out(line),
             ScenarioLine::Stop(word) => self.stop(line, word),
             _ => Err(ReadError::Syntax { line }),
+        }
+    }
+
+    /// What stands above the next line, in a text of this version.
+    pub fn above(&self, version: u8) -> Above {
+        let mut blocks = ArrayVec::new();
+        for body in &self.outer {
+            let _ = blocks.try_push(block_of(&body.opener));
+        }
+        if let Some(send) = &self.armless {
+            let _ = blocks.try_push(Block {
+                line: send.line,
+                is_repeat: false,
+            });
+        }
+        Above {
+            version,
+            section: Section::Script(self.line),
+            blocks,
+            is_bare: self.awaits_more(),
         }
     }
 
@@ -227,6 +253,7 @@ impl OpenScript {
         let mut open = self.with_block(
             alloc,
             BlockHead::Repeat {
+                line,
                 count: count as u32,
             },
         )?;
@@ -415,6 +442,20 @@ fn is_repeat(opener: &BlockHead) -> bool
     }
 }
 
+// The block that this begins.
+fn block_of(opener: &BlockHead) -> Block {
+    match opener {
+        BlockHead::Repeat { line, .. } => Block {
+            line: *line,
+            is_repeat: true,
+        },
+        BlockHead::Arm { line, .. } => Block {
+            line: *line,
+            is_repeat: false,
+        },
+    }
+}
+
 // The statement that the opener and its body are.
 #[tactic(auto, using(crate::proofs::lemmas::OpenScripts::Lines::closed_repeat, crate::proofs::lemmas::OpenScripts::Lines::closed_send))]
 fn statement_of_block(opener: BlockHead, body: Script) -> Result<Statement, AllocError>
@@ -422,7 +463,7 @@ fn statement_of_block(opener: BlockHead, body: Script) -> Result<Statement, Allo
         ≡ opener_lines opener ++ (lines_in body.statements.items ++ block_done ∷ [])) }
 {
     match opener {
-        BlockHead::Repeat { count } => Ok(Statement::Repeat { count, body }),
+        BlockHead::Repeat { line: _, count } => Ok(Statement::Repeat { count, body }),
         BlockHead::Arm {
             line,
             command,

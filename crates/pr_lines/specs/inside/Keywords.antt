@@ -1,20 +1,14 @@
--- The words that lines begin with, and what the words behind each say.
-use Rattle.std.specs.Prelude.{ℕ, List, map, Option, Some, option_map, None, true, false}
+-- What the words behind each word say that lines begin with.
+use Rattle.std.specs.Prelude.{ℕ, List, Option, Some, option_map, None, true, false}
 use Rattle.pr_lines.specs.declared.item.RefusalKind.TheVariants as refusal
 use Rattle.pr_lines.specs.declared.keyword.Keyword.{Keyword}
 use Rattle.pr_lines.specs.declared.keyword.Keyword.TheVariants as keyword
-use Rattle.pr_lines.specs.declared.keyword.TheConstants.{KEYWORDS}
 use Rattle.pr_lines.specs.Chain.{◌>>=◌}
 use Rattle.pr_lines.specs.Clauses.{clause_of, test_of}
 use Rattle.pr_lines.specs.CommandWords.{spelled_of, spelled_in}
 use Rattle.pr_lines.specs.ScenarioLines.{ScenarioLine, keys_line, nexus_line, reservation_line, generation_line, resets_line, plan_line, end_line, send_line, on_line, done_line, repeat_line, break_line, stop_line, command_line, list_of, start_reservation_of, only_name, only_count, parse_fence, start_line, pending_line, refusals_line, role_line, script_line, alternative_of, budget_in, parse_of_name, declares, states}
-use Rattle.pr_lines.specs.Lookups.{lookup}
 use Rattle.pr_lines.specs.TextLines.{only, if_alone}
 use Rattle.pr_lines.specs.WordTerms.{key_of, generation_of, code_of}
-
--- the keyword that a word is
-unfoldable pub keyword_of : List ℕ → Option Keyword
-keyword_of word = lookup (map (λ row. (row.0.now, row.1)) KEYWORDS) word
 
 -- what the words behind a keyword say that takes no list
 abbrev pub parse_plain : Keyword → List (List ℕ) → Option ScenarioLine

@@ -32,7 +32,7 @@ abbrev pub place_seen : ContextValue → Context
 place_seen place.BeforeAll = before_all
 place_seen place.Outside = outside
 place_seen (place.InScript o) = in_script (open_seen o)
-place_seen (place.InPlan h commands) = in_plan h commands.items
+place_seen (place.InPlan h begun commands) = in_plan h commands.items
 
 abbrev pub declared_by : Builder → Declared
 declared_by b = record {

@@ -20,14 +20,14 @@ arm_lines a = arm_on a.test ∷ lines_in a.body.statements.items
 
 -- the lines of a block before those of its body
 abbrev pub opener_lines : BlockHead → List ScriptLine
-opener_lines (opener.Repeat count) = repeat_of count ∷ []
+opener_lines (opener.Repeat line count) = repeat_of count ∷ []
 opener_lines (opener.Arm line command arms test) = send_at line command ∷ (flat_map arm_lines arms.items ++ arm_on test ∷ [])
 
 abbrev pub frame_lines : OpenBody → List ScriptLine
 frame_lines f = lines_in f.body.items ++ opener_lines f.opener
 
 abbrev pub block_by : BlockHead → OpenBlock
-block_by (opener.Repeat count) = repeating
+block_by (opener.Repeat line count) = repeating
 block_by (opener.Arm line command arms test) = sending command (length arms.items + 1)
 
 abbrev pub block_of : OpenBody → OpenBlock

@@ -20,7 +20,8 @@ use Rattle.pr_lines.specs.CommandWords.{spelled_of, spelled_in}
 use Rattle.pr_lines.specs.Clauses.{clause_of, good_of, test_of}
 use Rattle.pr_lines.specs.Lookups.{lookup}
 use Rattle.pr_lines.specs.ScenarioLines.{StartReservation, nobody, single, everybody, ScenarioLine, keys_line, nexus_line, start_line, pending_line, refusals_line, reservation_line, generation_line, resets_line, role_line, script_line, plan_line, end_line, send_line, on_line, done_line, repeat_line, break_line, stop_line, command_line, fence_line, list_of, alternative_of, everybody_of, single_of, start_reservation_of, name_in, only_name, only_count, budget_in, parse_fence, parse_of_name, item_of, declares, states}
-use Rattle.pr_lines.specs.inside.Keywords.{keyword_of, parse_plain, parse_after, parse_with}
+use Rattle.pr_lines.specs.Keywords.{keyword_of}
+use Rattle.pr_lines.specs.inside.Keywords.{parse_plain, parse_after, parse_with}
 use Rattle.pr_lines.proofs.lemmas.ScenarioLines.Words.{by_keyword}
 use Rattle.pr_lines.proofs.lemmas.WordTerms.NumberRoom.{digit_more, hex_some}
 use Rattle.pr_lines.proofs.lemmas.Tests.{both, true_le, true_lt}

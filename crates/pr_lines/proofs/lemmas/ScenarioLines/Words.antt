@@ -4,7 +4,8 @@ use Rattle.std.specs.Prelude.{codes, bytes_eq}
 use Rattle.pr_lines.specs.declared.keyword.Keyword.{Keyword}
 use Rattle.pr_lines.specs.declared.keyword.Keyword.TheVariants as keyword
 use Rattle.pr_lines.specs.ScenarioLines.{ScenarioLine, item_of}
-use Rattle.pr_lines.specs.inside.Keywords.{keyword_of, parse_after, parse_with}
+use Rattle.pr_lines.specs.Keywords.{keyword_of}
+use Rattle.pr_lines.specs.inside.Keywords.{parse_after, parse_with}
 
 with_keyword : (b : Bool) (k : Keyword) (o : Option Keyword) (w : List ℕ) (ws : List (List ℕ)) (i : Option ScenarioLine)
     → i ≡ parse_with o w ws → cond b (parse_after k ws) i ≡ parse_with (cond b (Some k) o) w ws

@@ -1,13 +1,14 @@
 -- Where a text's first line and a line's first word end.
-use Rattle.pr_lines.proofs.Common.{◌≡◌, ℕ, ◌+◌, ◌<◌, ◌≤◌, Bool, true, false, cond, List, [], ◌∷◌, length, take, drop, Some, None, refl, ap, ◌∙◌, arith, nat_tests, words}
-use Rattle.std.proofs.Common.{not, slice_index, ◌≢◌, inl, inr, subst, ltb, ◌==◌, if◌then◌else◌, position, filter, take_while}
+use Rattle.pr_lines.proofs.Common.{◌≡◌, ℕ, ◌+◌, ◌<◌, ◌≤◌, Bool, true, false, cond, List, [], ◌∷◌, length, take, drop, Some, None, Option, sym, refl, ap, ◌∙◌, arith, nat_tests, words}
+use Rattle.std.proofs.Common.{suc, not, slice_index, ◌≢◌, inl, inr, subst, ltb, ◌==◌, if◌then◌else◌, position, filter, take_while}
 use Rattle.std.specs.List.{All, slice_split, before_first, after_first, position_or_len}
 use Rattle.std.specs.Str.Lines.{lines, lines_of_parts, strip_carriage_return}
 use Rattle.std.proofs.lemmas.Bool.{cases_lt}
 use Rattle.std.proofs.lemmas.List.{take_all, drop_all}
 use Rattle.std.proofs.lemmas.List.Splits.{slice_split_first, slice_split_none, length-slice_split}
 use Rattle.std.proofs.lemmas.List.Sums.{fails_before_first, take_while-cons}
-use Rattle.pr_lines.specs.TextLines.{is_blank, is_comment}
+use Rattle.pr_lines.specs.Chain.{◌>>=◌}
+use Rattle.pr_lines.specs.TextLines.{is_blank, is_comment, only, is_end}
 
 found_at : (n m i : ℕ) → cond (ltb n m) (Some n) None ≡ Some i → (n ≡ i) × (n < m)
 found_at n m i e = grind (arith, nat_tests)
@@ -100,3 +101,11 @@ module _ (line : List ℕ) where
 pub words_none : words [] ≡ []
 unfolding words
 words_none = refl
+
+is_no_end : (n : ℕ) → (suc n == 0) ≡ false
+is_no_end n = grind (arith, nat_tests)
+
+-- one word, read, is the first word, read, where no word follows it
+pub only_read : {A : Type 0} (f : List ℕ → Option A) (w : List ℕ) (ws : List (List ℕ)) → (only (w ∷ ws) >>= f) ≡ (if is_end ws then f w else None)
+only_read f w [] = refl
+only_read f w (x ∷ ws) = sym (ap (λ b. cond b (f w) None) (is_no_end (length ws)))

@@ -91,7 +91,7 @@ pub count_repeats : (frames : List OpenBody) → count_by is_repeating (blocks_i
 count_repeats frames = blocks_from is_repeating [] frames ∙ zero-add (count_by (λ f. is_repeating (block_of f)) frames)
 
 by_opener : (o : BlockHead) → is_sending (block_by o) ≡ not (is_repeating (block_by o))
-by_opener (opener.Repeat count) = refl
+by_opener (opener.Repeat line count) = refl
 by_opener (opener.Arm line command arms test) = refl
 
 sending_not : (f : OpenBody) → is_sending (block_of f) ≡ not (is_repeating (block_of f))
@@ -109,7 +109,7 @@ count_sends frames = blocks_from is_sending [] frames ∙ (zero-add (count_by (�
 -- ---- what the blocks say
 
 armed_by : (o : BlockHead) (bs : List OpenBlock) → awaits_arm (block_by o ∷ bs) ≡ false
-armed_by (opener.Repeat count) bs = refl
+armed_by (opener.Repeat line count) bs = refl
 armed_by (opener.Arm line command arms test) bs = some_arm (length arms.items)
   where
     some_arm : (n : ℕ) → (n + 1 == 0) ≡ false

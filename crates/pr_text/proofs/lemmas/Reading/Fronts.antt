@@ -5,6 +5,8 @@ use Rattle.pr_roles.specs.declared.parts.Parts.{Parts}
 use Rattle.pr_text.specs.declared.fault.ReadError.TheVariants.{ReadFault, Memory}
 use Rattle.pr_text.specs.inside.Steps.{ReadsUpTo}
 use Rattle.pr_text.specs.Reading.{IsRead}
+use Rattle.pr_text.specs.Diagnoses.{fault_alone}
+use Rattle.pr_text.specs.declared.diagnosis.Diagnosis.{Diagnosis}
 use Rattle.pr_text.specs.declared.text.TheConstants.{MOST_BYTES}
 use Rattle.pr_text.proofs.lemmas.Texts.Readings.{too_large}
 
@@ -29,3 +31,9 @@ read_front None new bytes r reads h k = tt
 read_front (Some text) None bytes r reads h k = absurd reads.taken
 read_front (Some text) (Some rest) bytes r reads h k =
     read_along text bytes r (ap answer_of reads.taken ∙ answer_of_front bytes rest reads.ended) h k
+
+-- the same, where a fault is told with what is known of it
+pub read_front_told : (old new : Option (List ℕ)) (bytes : List ℕ) (r : Result Parts Diagnosis) → ReadsUpTo (MOST_BYTES + 1) old new bytes
+    → IfOk r (λ p. IsWrittenAs bytes (scenario_of p)) → IfErr r (λ d. Fails d.error (answer_of bytes)) → IfSome old (λ text. IsRead text (fault_alone r))
+read_front_told old new bytes (Ok p) reads h k = read_front old new bytes (Ok p) reads h k
+read_front_told old new bytes (Err d) reads h k = read_front old new bytes (Err d.error) reads h k

@@ -9,6 +9,7 @@ use Rattle.pr_text.specs.Texts.{answer_of_lines, reservations_of}
 use Rattle.pr_text.specs.ScenarioRoundTrip.{IsWhole}
 use Rattle.pr_text.specs.inside.Steps.{AreRead}
 use Rattle.pr_text.specs.declared.text.TheConstants.{MOST_BYTES}
+use Rattle.pr_text.specs.declared.diagnosis.Diagnosis.{Diagnosis}
 use Rattle.pr_text.proofs.lemmas.Endings.Faults.{ended_in_turn}
 use Rattle.pr_text.proofs.lemmas.Steps.Failures.{fails_same, fails_first}
 
@@ -39,10 +40,10 @@ answer_read text n d h read =
 pub fails_early : (text : List ℕ) (e : ReadError) → length text ≤ MOST_BYTES → Fails e (all_placed 0 (lines text) nothing) → Fails e (answer_of text)
 fails_early text e h fails = rw (answer_first text h) (fails_first e (all_placed 0 (lines text) nothing) (end_placed (length (lines text))) fails)
 
-pub fails_late : {A : Type 0} (text : List ℕ) (n : ℕ) (d : Declared) (r : Result A ReadError) → length text ≤ MOST_BYTES → AreRead text n d
-    → IfErr r (λ e. Fails e (end_placed n d)) → IfErr r (λ e. Fails e (answer_of text))
-fails_late text n d (Ok a) h read fails = tt
-fails_late text n d (Err e) h read fails = rw (answer_read text n d h read) fails
+pub told_late : {A : Type 0} (text : List ℕ) (n : ℕ) (d : Declared) (r : Result A Diagnosis) → length text ≤ MOST_BYTES → AreRead text n d
+    → IfErr r (λ e. Fails e.error (end_placed n d)) → IfErr r (λ e. Fails e.error (answer_of text))
+told_late text n d (Ok a) h read fails = tt
+told_late text n d (Err e) h read fails = rw (answer_read text n d h read) fails
 
 pub written : (text : List ℕ) (n : ℕ) (d : Declared) (s : Scenario) → length text ≤ MOST_BYTES → AreRead text n d → IsWhole n d s → IsWrittenAs text s
 written text n d s h read whole = record { declared = d; faultless = answer_read text n d h read ∙ whole.faultless; kept = whole.kept }
