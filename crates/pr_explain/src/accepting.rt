@@ -1,11 +1,11 @@
 //! What is said of a scenario that is accepted.
 
-use crate::blocks::send_of;
+use crate::blocks::{OpenSends, sends_in_arm};
 use crate::costing::Cost;
 use crate::lint::Lint;
-use crate::lint_words::{is_meant, is_of_arm, is_spare, put_lint};
+use crate::lint_words::{is_meant, is_of_arm, put_lint, spare_arm};
 use crate::saying::{Part, line_number, name, number, say};
-use crate::source::{first_word, is};
+use crate::source::first_word;
 use pr_output::{WriteFault, put};
 use pr_roles::Scenario;
 use std::io::Write;
@@ -68,15 +68,15 @@ fn put_lints<W: Write>(
 ) -> Result<(), WriteFault> {
     put_spare_arms(writer, lines, lints)?;
     let mut is_first = true;
-    for lint in lints {
-        if is_meant(lines, *lint) || is_spare(lines, *lint) {
+    for (place, lint) in lints.iter().enumerate() {
+        if is_meant(lines, *lint) || spare_arm(lines, *lint).is_some() {
             continue;
         }
         if is_first {
             put(writer, b"\nWorth a look, though it changes no verdict:\n")?;
             is_first = false;
         }
-        put_lint(writer, lines, scenario.parts(), *lint)?;
+        put_lint(writer, lines, scenario.parts(), lints, place)?;
     }
     Ok(())
 }
@@ -87,7 +87,10 @@ fn put_spare_arms<W: Write>(
     lines: &[&[u8]],
     lints: &[Lint],
 ) -> Result<(), WriteFault> {
-    let count = lints.iter().filter(|lint| is_spare(lines, **lint)).count();
+    let count = lints
+        .iter()
+        .filter(|lint| spare_arm(lines, **lint).is_some())
+        .count();
     if count == 0 {
         return Ok(());
     }
@@ -114,20 +117,16 @@ fn put_lines_of_arms<W: Write>(
     lints: &[Lint],
 ) -> Result<(), WriteFault> {
     let mut is_first = true;
+    let mut open = OpenSends::new();
     for (index, line) in lines.iter().enumerate() {
-        if is(first_word(line), "on") && is_spare_at(lines, lints, index) {
+        if let Some((send, arm)) = open.go_past(index, first_word(line))
+            && lints.iter().any(|lint| is_of_arm(*lint, send, arm))
+            && !sends_in_arm(lines, index)
+        {
             let comma = if is_first { b"".as_slice() } else { b"," };
             say(writer, &[Part::Text(comma), line_number(index)])?;
             is_first = false;
         }
     }
     Ok(())
-}
-
-// Whether the arm on the line with this index is one of them.
-fn is_spare_at(lines: &[&[u8]], lints: &[Lint], index: usize) -> bool {
-    let Some((send, arm)) = send_of(lines, index) else {
-        return false;
-    };
-    lints.iter().any(|lint| is_of_arm(*lint, send, arm) && is_spare(lines, *lint))
 }

@@ -1,6 +1,8 @@
-//! A send as it stands in a scenario's text: its line, its arms, and the `done` that ends it.
+//! A send as it stands in a scenario's text: its line, its arms, and the `done` that ends it. Of a long text only the lines from
+//! the send on are looked at.
 
 use crate::source::{first_word, is, line_of};
+use arrayvec::ArrayVec;
 
 /// How many sends and repeats are open behind a line that begins with this word, by those before it.
 pub(crate) fn depth_behind(depth: u32, word: &[u8]) -> u32 {
@@ -13,15 +15,13 @@ pub(crate) fn depth_behind(depth: u32, word: &[u8]) -> u32 {
     }
 }
 
-// The lines from this index on. What stands above is not looked at, since it is long where there are many sends.
-fn lines_from<'a, 'b>(lines: &'a [&'b [u8]], first: usize) -> &'a [&'b [u8]] {
-    lines.get(first..).unwrap_or(&[])
-}
-
 /// The index of the line that ends the send which begins at this index.
 pub(crate) fn end_of(lines: &[&[u8]], first: usize) -> usize {
+    let Some(rest) = lines.get(first..) else {
+        return first;
+    };
     let mut depth = 0;
-    for (place, line) in lines_from(lines, first).iter().enumerate() {
+    for (place, line) in rest.iter().enumerate() {
         depth = depth_behind(depth, first_word(line));
         if depth == 0 {
             return first.saturating_add(place);
@@ -32,9 +32,12 @@ pub(crate) fn end_of(lines: &[&[u8]], first: usize) -> usize {
 
 /// The index of the line of its arm with this number, from 0.
 pub(crate) fn arm_of(lines: &[&[u8]], first: usize, arm: usize) -> usize {
+    let Some(rest) = lines.get(first..) else {
+        return first;
+    };
     let mut depth = 0;
     let mut left = arm;
-    for (place, line) in lines_from(lines, first).iter().enumerate() {
+    for (place, line) in rest.iter().enumerate() {
         let word = first_word(line);
         if depth == 1 && is(word, "on") {
             if left == 0 {
@@ -47,31 +50,53 @@ pub(crate) fn arm_of(lines: &[&[u8]], first: usize, arm: usize) -> usize {
     first
 }
 
-/// The index of the line of the send that has its arm on this line, and the number of the arm, from 0.
-pub(crate) fn send_of(lines: &[&[u8]], index: usize) -> Option<(usize, usize)> {
-    let mut depth = 0_u32;
-    let mut arm = 0_usize;
-    for step in 0..index {
-        let at = index.saturating_sub(step).saturating_sub(1);
-        let word = first_word(lines.get(at)?);
-        if is(word, "done") {
-            depth = depth.saturating_add(1);
-        } else if is(word, "send") || is(word, "repeat") {
-            if depth == 0 {
-                return Some((at, arm));
-            }
-            depth = depth.saturating_sub(1);
-        } else if depth == 0 && is(word, "on") {
-            arm = arm.saturating_add(1);
+/// The sends and repeats that are open behind a line: the index of the line of each, and how many arms it has.
+#[derive(Drop)]
+pub(crate) struct OpenSends {
+    open: ArrayVec<(usize, usize), MOST_OPEN_BLOCKS>,
+}
+
+/// As many sends and repeats are open at once: 8 of each.
+const MOST_OPEN_BLOCKS: usize = 16;
+
+impl OpenSends {
+    /// None is open.
+    pub(crate) fn new() -> Self {
+        OpenSends {
+            open: ArrayVec::new(),
         }
     }
-    None
+
+    /// Goes past the line with this index, which begins with this word. Of an arm it answers the index of the line of its send, and
+    /// its number, from 0.
+    pub(crate) fn go_past(&mut self, index: usize, word: &[u8]) -> Option<(usize, usize)> {
+        match word {
+            b"send" | b"repeat" => {
+                let _ = self.open.try_push((index, 0));
+            }
+            b"done" => {
+                let _ = self.open.pop();
+            }
+            b"on" => {
+                if let Some(send) = self.open.as_mut_slice().last_mut() {
+                    let arm = *send;
+                    send.1 = send.1.saturating_add(1);
+                    return Some(arm);
+                }
+            }
+            _ => {}
+        }
+        None
+    }
 }
 
 /// Whether the arm on the line with this index begins with a send without arms, which says that it is never sent.
 pub(crate) fn is_denied(lines: &[&[u8]], arm: usize) -> bool {
+    let Some(rest) = lines.get(arm.saturating_add(1)..) else {
+        return false;
+    };
     let mut is_in_send = false;
-    for line in lines_from(lines, arm.saturating_add(1)) {
+    for line in rest {
         let word = first_word(line);
         if word.is_empty() {
             continue;
@@ -113,11 +138,11 @@ fn is_statement(word: &[u8]) -> bool {
 
 /// Whether something is sent in the arm on the line with this index. A repeat sends something.
 pub(crate) fn sends_in_arm(lines: &[&[u8]], arm: usize) -> bool {
-    for (index, line) in lines.iter().enumerate() {
+    let Some(rest) = lines.get(arm.saturating_add(1)..) else {
+        return false;
+    };
+    for line in rest {
         let word = first_word(line);
-        if index <= arm {
-            continue;
-        }
         if is(word, "send") || is(word, "repeat") {
             return true;
         }

@@ -11,15 +11,19 @@ use pr_roles::{Nexus, Parts};
 use pr_words::name_of;
 use std::io::Write;
 
-/// Writes a lint: the line that it is of, and below it what that says.
+/// Writes the lint at this place: the line that it is of, and below it what that says.
 pub(crate) fn put_lint<W: Write>(
     writer: &mut W,
     lines: &[&[u8]],
     parts: &Parts,
-    lint: Lint,
+    lints: &[Lint],
+    place: usize,
 ) -> Result<(), WriteFault> {
+    let Some(lint) = lints.get(place) else {
+        return Ok(());
+    };
     let nexuses = &parts.nexuses;
-    match lint {
+    match *lint {
         Lint::NeverSent { line, .. } => {
             let said = b"    is never sent: the script does not come to it.\n";
             put_of_line(writer, lines, index_of(line), said)
@@ -35,7 +39,22 @@ pub(crate) fn put_lint<W: Write>(
             above,
             ..
         } => put_covered(writer, lines, index_of(line), arm, above),
-        Lint::NotNeeded { host, clause } => put_not_needed(writer, lines, nexuses, host, clause),
+        Lint::NotNeeded { host, clause } => {
+            let is_last = !is_alike(parts, lints.get(place.saturating_add(1)), host, clause);
+            let above = place.checked_sub(1).and_then(|above| lints.get(above));
+            let are_several = is_alike(parts, above, host, clause);
+            put_clause(writer, lines, parts, host, clause)?;
+            if is_last {
+                put_unused(
+                    writer,
+                    name_of(nexuses, host),
+                    are_several,
+                    widens(parts, host, clause),
+                )
+            } else {
+                Ok(())
+            }
+        }
         Lint::NotUsed { key } => put_not_used(writer, lines, key),
         Lint::Keyless { line, .. } => {
             let said =
@@ -73,11 +92,17 @@ pub(crate) fn is_meant(lines: &[&[u8]], lint: Lint) -> bool {
     }
 }
 
-/// Whether it is of an arm that no reply takes, and in which nothing is sent: that costs nothing, and another disk may want it.
-pub(crate) fn is_spare(lines: &[&[u8]], lint: Lint) -> bool {
+/// The index of the line of an arm that no reply takes and in which nothing is sent, if it is of one: that costs nothing, and another
+/// disk may want it.
+pub(crate) fn spare_arm(lines: &[&[u8]], lint: Lint) -> Option<usize> {
     match lint {
         Lint::NeverTaken { line, arm, .. } => {
-            !sends_in_arm(lines, arm_of(lines, index_of(line), arm))
+            let index = arm_of(lines, index_of(line), arm);
+            if sends_in_arm(lines, index) {
+                None
+            } else {
+                Some(index)
+            }
         }
         Lint::NeverSent { .. }
         | Lint::Covered { .. }
@@ -85,11 +110,11 @@ pub(crate) fn is_spare(lines: &[&[u8]], lint: Lint) -> bool {
         | Lint::NotUsed { .. }
         | Lint::Keyless { .. }
         | Lint::NoSuchReservation { .. }
-        | Lint::NoSuchStart { .. } => false,
+        | Lint::NoSuchStart { .. } => None,
     }
 }
 
-/// Whether it is that no reply takes this arm of the send on the line with this index.
+/// Whether it is that no reply takes the arm with this number of the send on the line with this index.
 pub(crate) fn is_of_arm(lint: Lint, send: usize, number: usize) -> bool {
     match lint {
         Lint::NeverTaken { line, arm, .. } => index_of(line) == send && arm == number,
@@ -121,42 +146,74 @@ fn put_covered<W: Write>(
     )
 }
 
-fn put_not_needed<W: Write>(
+fn put_clause<W: Write>(
     writer: &mut W,
     lines: &[&[u8]],
-    nexuses: &[Nexus],
+    parts: &Parts,
     host: u8,
     clause: usize,
 ) -> Result<(), WriteFault> {
-    let owner = name_of(nexuses, host);
-    if let Some(index) = line_of(lines, b"role", owner, clause) {
-        put_numbered(writer, lines, index)?;
-    }
-    match nexuses.get(usize::from(host)) {
-        Some(nexus) if nexuses.len() > 1 && nexus.role.clauses.get(clause).is_some_and(changes) => {
-            put_widening(writer, owner)
-        }
-        Some(_) | None => say(
-            writer,
-            &[
-                Part::Text(b"   "),
-                name(owner),
-                Part::Text(
-                    b"'s script never sends this. The clause changes nothing for anybody, and can go.\n",
-                ),
-            ],
-        ),
+    match line_of(lines, b"role", name_of(&parts.nexuses, host), clause) {
+        Some(index) => put_numbered(writer, lines, index),
+        None => Ok(()),
     }
 }
 
-/// Writes that the script of this name makes no use of a clause, which the others have to bear.
-pub(crate) fn put_widening<W: Write>(writer: &mut W, owner: &[u8]) -> Result<(), WriteFault> {
+// Whether the clause lets the host change what others meet.
+fn widens(parts: &Parts, host: u8, clause: usize) -> bool {
+    match parts.nexuses.get(usize::from(host)) {
+        Some(nexus) => {
+            parts.nexuses.len() > 1 && nexus.role.clauses.get(clause).is_some_and(changes)
+        }
+        None => false,
+    }
+}
+
+// Whether the lint is of another clause of this host, of which the same is said as of this one.
+fn is_alike(parts: &Parts, lint: Option<&Lint>, of: u8, as_this: usize) -> bool {
+    match lint {
+        Some(Lint::NotNeeded { host, clause }) => {
+            *host == of && widens(parts, of, *clause) == widens(parts, of, as_this)
+        }
+        Some(_) | None => false,
+    }
+}
+
+// What is said of one clause that the script of this name makes no use of, or of several.
+fn put_unused<W: Write>(
+    writer: &mut W,
+    owner: &[u8],
+    are_several: bool,
+    widens: bool,
+) -> Result<(), WriteFault> {
+    if widens {
+        return put_widening(writer, owner, are_several);
+    }
+    let said: &[u8] = if are_several {
+        b"'s script never sends these. The clauses change nothing for anybody, and can go.\n"
+    } else {
+        b"'s script never sends this. The clause changes nothing for anybody, and can go.\n"
+    };
+    say(writer, &[Part::Text(b"   "), name(owner), Part::Text(said)])
+}
+
+/// Writes that the script of this name makes no use of a clause, or of several, which the others have to bear.
+pub(crate) fn put_widening<W: Write>(
+    writer: &mut W,
+    owner: &[u8],
+    are_several: bool,
+) -> Result<(), WriteFault> {
+    let said: &[u8] = if are_several {
+        b"'s script never sends these. Delete the clauses: the checker assumes that"
+    } else {
+        b"'s script never sends this. Delete the clause: the checker assumes that"
+    };
     say(
         writer,
         &[
             Part::Text(b"   "),
             name(owner),
-            Part::Text(b"'s script never sends this. Delete the clause: the checker assumes that"),
+            Part::Text(said),
             name(owner),
             Part::Text(b" may.\n"),
         ],

@@ -200,7 +200,7 @@ fn put_changes<W: Write>(
         if let Some(table) = table
             && !is_needed(&table.rows, clause.action)
         {
-            put_widening(writer, owner)?;
+            put_widening(writer, owner, false)?;
         }
     }
     Ok(())

@@ -3,7 +3,7 @@
 ghost use Rattle.std.specs.Prelude.{◌≡◌, map, IfOk};
 ghost use Rattle.std.specs.Str.Lines.{lines};
 
-use pr_lines::{next_line, next_word};
+use pr_lines::{key_or_zero, next_line, next_word};
 use std::alloc::{AllocError, Global};
 
 /// The lines of the text, without their ends, in order.
@@ -19,12 +19,20 @@ pub fn lines_of(alloc: Global, text: &[u8]) -> Result<Vec<&[u8]>, AllocError>
     Ok(found)
 }
 
-/// The first word of the line, or none.
+/// The first word of the line, or none. It is looked for byte by byte, since there are many lines.
 pub(crate) fn first_word(line: &[u8]) -> &[u8] {
-    match next_word(line) {
-        Some((word, _)) => word,
-        None => b"",
+    let rest = without_blanks(line);
+    if let [b'#', ..] = rest {
+        return b"";
     }
+    let mut end = 0_usize;
+    for byte in rest {
+        if let b' ' | b'\t' = byte {
+            break;
+        }
+        end = end.saturating_add(1);
+    }
+    rest.get(..end).unwrap_or(b"")
 }
 
 /// Whether the word is this one.
@@ -59,11 +67,12 @@ fn behind<'a>(line: &'a [u8], word: &[u8]) -> Option<&'a [u8]> {
 
 // The line from its first byte that is no blank.
 fn without_blanks(line: &[u8]) -> &[u8] {
-    let mut rest = line;
-    while let Some((b' ' | b'\t', others)) = rest.split_first() {
-        rest = others;
+    for (place, byte) in line.iter().enumerate() {
+        if *byte != b' ' && *byte != b'\t' {
+            return &line[place..];
+        }
     }
-    rest
+    &[]
 }
 
 /// Of the lines that begin with this word and this name, the index of the one with this number, from 0.
@@ -111,9 +120,15 @@ pub(crate) fn dropped_line(lines: &[&[u8]], key: u64) -> Option<usize> {
     None
 }
 
+/// A line of 256 bytes has no more words.
+const MOST_WORDS: usize = 130;
+
 fn has_option(line: &[u8], key: u64) -> bool {
     let mut rest = line;
-    while let Some((word, others)) = next_word(rest) {
+    for _ in 0..MOST_WORDS {
+        let Some((word, others)) = next_word(rest) else {
+            return false;
+        };
         if key_in(word) == Some(key) {
             return true;
         }
@@ -124,23 +139,9 @@ fn has_option(line: &[u8], key: u64) -> bool {
 
 // The key that an option of a command gives, if the word is one.
 fn key_in(word: &[u8]) -> Option<u64> {
-    let digits = word
-        .strip_prefix(b"--param-rk=".as_slice())
-        .or_else(|| word.strip_prefix(b"--param-sark=".as_slice()))?;
-    let digits = digits.strip_prefix(b"0x".as_slice()).unwrap_or(digits);
-    let mut key = 0_u64;
-    for digit in digits {
-        key = key.wrapping_mul(16) | u64::from(value_of(*digit)?);
-    }
-    Some(key)
-}
-
-// The value of a hexadecimal digit.
-fn value_of(digit: u8) -> Option<u8> {
-    match digit {
-        b'0'..=b'9' => Some(digit - b'0'),
-        b'a'..=b'f' => Some(digit - b'a' + 10),
-        b'A'..=b'F' => Some(digit - b'A' + 10),
-        _ => None,
-    }
+    let digits = match word.strip_prefix(b"--param-rk=".as_slice()) {
+        Some(digits) => digits,
+        None => word.strip_prefix(b"--param-sark=".as_slice())?,
+    };
+    key_or_zero(digits)
 }

@@ -1,6 +1,5 @@
 //! Lines that are broken where they get too long.
 
-use arrayvec::ArrayVec;
 use pr_output::put;
 use std::io::{Error, ErrorKind, Result, Write};
 
@@ -18,8 +17,10 @@ const MOST_KEPT: usize = 64;
 #[derive(Drop)]
 pub struct Wrapping<'a, W: Write> {
     writer: &'a mut W,
-    /// The spaces and the word that come next.
-    word: ArrayVec<u8, MOST_KEPT>,
+    /// The spaces and the word that come next, so many bytes of which are kept back, and so many of these are the spaces.
+    word: [u8; MOST_KEPT],
+    kept: usize,
+    spaces: usize,
     /// How many words of the line went out, and how many columns.
     words: usize,
     columns: usize,
@@ -33,7 +34,9 @@ impl<'a, W: Write> Wrapping<'a, W> {
     pub fn new(writer: &'a mut W) -> Self {
         Wrapping {
             writer,
-            word: ArrayVec::new(),
+            word: [0; MOST_KEPT],
+            kept: 0,
+            spaces: 0,
             words: 0,
             columns: 0,
             indent: 0,
@@ -47,7 +50,7 @@ impl<'a, W: Write> Wrapping<'a, W> {
                 self.put_word()?;
                 self.end_line()
             }
-            b' ' if self.is_in_word() => {
+            b' ' if self.spaces < self.kept => {
                 self.put_word()?;
                 self.keep(byte)
             }
@@ -55,55 +58,43 @@ impl<'a, W: Write> Wrapping<'a, W> {
         }
     }
 
-    // Whether what is kept back has more than spaces.
-    fn is_in_word(&self) -> bool {
-        self.word.iter().any(|byte| *byte != b' ')
-    }
-
     // A word that is too long for what is kept goes out in parts.
     fn keep(&mut self, byte: u8) -> Result<()> {
-        if self.word.is_full() {
+        if self.kept >= MOST_KEPT {
             self.put_word()?;
         }
-        let _ = self.word.try_push(byte);
+        if byte == b' ' && self.spaces == self.kept {
+            self.spaces = self.spaces.saturating_add(1);
+        }
+        if let Some(place) = self.word.get_mut(self.kept) {
+            *place = byte;
+        }
+        self.kept = self.kept.saturating_add(1);
         Ok(())
     }
 
     fn put_word(&mut self) -> Result<()> {
-        let spaces = self.spaces();
-        let letters = self.word.len().saturating_sub(spaces);
+        let bytes = self.word;
+        let word = bytes.get(..self.kept).unwrap_or(b"");
+        let spaces = self.spaces;
+        let has_letters = spaces < word.len();
+        self.kept = 0;
+        self.spaces = 0;
         if self.words == 0 {
-            self.indent = self.indent_of(spaces);
+            self.indent = indent_of(word, spaces);
         }
-        let is_past = self.columns.saturating_add(self.word.len()) > MOST_COLUMNS;
-        if is_past && letters > 0 && self.words > 0 && !self.is_quoted {
+        let is_past = self.columns.saturating_add(word.len()) > MOST_COLUMNS;
+        let is_broken = is_past && has_letters && self.words > 0 && !self.is_quoted;
+        if is_broken {
             self.go_on()?;
-            self.put_letters(spaces)?;
-        } else {
-            self.put_letters(0)?;
         }
-        self.is_quoted = self.is_quoted || (self.words == 1 && self.word.ends_with(b"|"));
-        self.words = self.words.saturating_add(usize::from(letters > 0));
-        self.word.clear();
+        let first = if is_broken { spaces } else { 0 };
+        let text = word.get(first..).unwrap_or(b"");
+        self.columns = self.columns.saturating_add(text.len());
+        send(self.writer, text)?;
+        self.is_quoted = self.is_quoted || (self.words == 1 && word.ends_with(b"|"));
+        self.words = self.words.saturating_add(usize::from(has_letters));
         Ok(())
-    }
-
-    // How many spaces stand before the word.
-    fn spaces(&self) -> usize {
-        self.word.iter().take_while(|byte| **byte == b' ').count()
-    }
-
-    // How far in the lines stand that go on with one that begins with this word.
-    fn indent_of(&self, spaces: usize) -> usize {
-        let is_sentence = self
-            .word
-            .first()
-            .is_some_and(|byte| byte.is_ascii_uppercase());
-        if is_sentence {
-            0
-        } else {
-            spaces.saturating_add(2)
-        }
     }
 
     // Begins the line that goes on with this one.
@@ -114,13 +105,6 @@ impl<'a, W: Write> Wrapping<'a, W> {
         }
         self.columns = self.indent;
         Ok(())
-    }
-
-    // Writes what is kept back, but for the first bytes.
-    fn put_letters(&mut self, first: usize) -> Result<()> {
-        let letters = self.word.get(first..).unwrap_or(b"");
-        self.columns = self.columns.saturating_add(letters.len());
-        send(self.writer, letters)
     }
 
     fn end_line(&mut self) -> Result<()> {
@@ -141,6 +125,14 @@ impl<'a, W: Write> Write for Wrapping<'a, W> {
 
     fn flush(&mut self) -> Result<()> {
         self.writer.flush()
+    }
+}
+
+// How far in the lines stand that go on with one that begins with this word, behind so many spaces.
+fn indent_of(word: &[u8], spaces: usize) -> usize {
+    match word.first() {
+        Some(byte) if byte.is_ascii_uppercase() => 0,
+        Some(_) | None => spaces.saturating_add(2),
     }
 }
 
