@@ -1,9 +1,9 @@
 -- Agrees with docs/FORMATS.md, 'Auditing'.
 -- Histories that are followed item by item: which world they have led to, and what may come next.
-use Rattle.std.specs.Prelude.{◌≡◌, ℕ, Bool, true, false, List, [], ◌∷◌, ◌++◌, Some, length, map}
+use Rattle.std.specs.Prelude.{◌≡◌, ℕ, Bool, true, false, List, [], ◌∷◌, ◌++◌, Option, Some, None, length, map}
 use Rattle.pr_cdb.specs.declared.command.Command.{Command}
 use Rattle.pr_unit.specs.UnitStates.{UnitState}
-use Rattle.pr_script.specs.Scripts.{ready}
+use Rattle.pr_script.specs.Scripts.{Standing, ready, stopped}
 use Rattle.pr_cdb.specs.Spelling.{spelling}
 use Rattle.pr_roles.specs.declared.entry.Entry.{Entry}
 use Rattle.pr_roles.specs.declared.item.Item.{Item}
@@ -69,6 +69,12 @@ IsPast e k after =
     ((line : ℕ) (command : Command) → standing_of k ≡ Some (ready line command) → e.wire ≡ spelling command → after ≡ control_after line k e.reply)
     × (((line : ℕ) (command : Command) → standing_of k ≡ Some (ready line command) → e.wire ≡ spelling command → ⊥) → after ≡ k)
 
--- the line at which one that acts so is ready, and its command there
-abbrev pub IsNextOf : Control → ℕ × Command → Type 0
-IsNextOf k next = standing_of k ≡ Some (ready next.0 next.1)
+-- the line at which a script is ready to send, and its command there; None where it is stopped
+abbrev pub next_by : Option Standing → Option (ℕ × Command)
+next_by None = None
+next_by (Some (ready line command)) = Some (line, command)
+next_by (Some (stopped word)) = None
+
+-- the same of one that acts so: nothing where a script is trapped, nor of a guest
+abbrev pub next_of : Control → Option (ℕ × Command)
+next_of k = next_by (standing_of k)

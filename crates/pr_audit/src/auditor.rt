@@ -1,10 +1,10 @@
 //! A scenario as a history of it is followed: its unit, and who may send what next.
 
-ghost use Rattle.std.specs.Prelude.{◌≡◌, ◌<◌, [], Some, length, slice_set, IfSome, IfOk};
+ghost use Rattle.std.specs.Prelude.{◌≡◌, ◌<◌, [], Some, length, slice_set, IfOk};
 ghost use Rattle.pr_roles.specs.Scenarios.{scenario_of};
 ghost use Rattle.pr_roles.specs.FirstStarts.{first_state};
 ghost use Rattle.pr_roles.specs.Worlds.{control};
-ghost use Rattle.pr_audit.specs.Auditors.{IsAuditorOf, IsNextOf, IsPast, IsTriedAfter, StartsAt, world_at};
+ghost use Rattle.pr_audit.specs.Auditors.{IsAuditorOf, IsPast, IsTriedAfter, StartsAt, next_of, world_at};
 ghost use Rattle.pr_audit.specs.Ends.{IsEndBy};
 ghost use Rattle.pr_audit.specs.inside.Auditing.{AreFirstSenders, how_of};
 
@@ -37,6 +37,7 @@ impl Auditor {
     }
 
     /// The scenario over this unit, with each script at its beginning. There is one nexus for each that the scenario declares.
+    #[tactic(auto, using(crate::proofs::lemmas::Auditors::Admissions::begun_tasks))]
     pub fn from_start(
         alloc: Global,
         scenario: &Scenario,
@@ -104,7 +105,7 @@ impl Auditor {
     /// nor of a guest.
     pub fn next_command(&self, host: u8) -> Option<(u32, Command)>
         requires { host < length (world_at self.now []).controls }
-        ensures { IfSome result (IsNextOf (control (world_at self.now []) host)) }
+        ensures { result ≡ next_of (control (world_at self.now []) host) }
     {
         self.senders[usize::from(host)].next_command()
     }

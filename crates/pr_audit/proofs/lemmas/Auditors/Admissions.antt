@@ -5,7 +5,7 @@ use Rattle.std.proofs.lemmas.List.{length-set, get_or-set_same}
 use Rattle.pr_roles.specs.declared.parts.Nexus.{Nexus as NexusPart}
 use Rattle.pr_audit.specs.declared.sender.Sender.{Sender}
 use Rattle.pr_audit.specs.Auditors.{IsPast}
-use Rattle.pr_audit.specs.inside.Auditing.{how_of}
+use Rattle.pr_audit.specs.inside.Auditing.{AreFirstSenders, how_of}
 use Rattle.pr_audit.proofs.lemmas.Auditing.Parts.{count_of_parts, role_at}
 use Rattle.pr_audit.proofs.lemmas.Auditors.Additions.{judged_tried, judged_acts, none_left, none_past}
 
@@ -22,8 +22,9 @@ tasks_begun : (ns : List Nexus) → map is_free (map (λ n. control_of n.task) n
 tasks_begun [] = refl
 tasks_begun (n ∷ ns) = λ i. free_from n.task i ∷ tasks_begun ns i
 
-pub begun_acts : (s : Scenario) (u : UnitState) (senders : List Sender) → u.registry.hosts ≡ length s.nexuses → map control_by senders ≡ map (λ n. control_of n.task) s.nexuses → ActFor s (world_of u senders [])
-begun_acts s u senders hosts controls = record { hosts = hosts; tasks = ap (map is_free) controls ∙ tasks_begun s.nexuses }
+-- just the guests among them send what they like
+pub begun_tasks : (p : Parts) (senders : List Sender) → AreFirstSenders p senders → map is_free (map control_by senders) ≡ map (λ n. is_planned n.task) (scenario_of p).nexuses
+begun_tasks p senders controls = ap (map is_free) controls ∙ tasks_begun (scenario_of p).nexuses
 
 -- what was said of a world after one history holds after another
 others_acts : (s : Scenario) (u : UnitState) (senders : List Sender) (es fs : List Item) → ActFor s (world_of u senders es) → ActFor s (world_of u senders fs)
