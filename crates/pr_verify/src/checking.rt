@@ -9,7 +9,7 @@ ghost use Rattle.pr_script.specs.Costs.{cost_of_all};
 ghost use Rattle.pr_script.specs.Trees.{script_of};
 ghost use Rattle.pr_roles.specs.Scenarios.{scenario_of, task};
 ghost use Rattle.pr_roles.specs.Starts.{CanStart};
-ghost use Rattle.pr_verify.specs.Outlines.{SendsFit};
+ghost use Rattle.pr_verify.specs.Outlines.{HostSendsFit, SendsFit};
 ghost use Rattle.pr_verify.specs.Refusals.{first_difference};
 ghost use Rattle.pr_verify.specs.Rooms.{IsFittingFor, IsMadeFor, IsRefusalFor, IsScripted, IsSoundFor};
 ghost use Rattle.pr_verify.specs.inside.Reviewing.{CanCheck, FitsAnyBudget, IsOver, IsRefusedBy, IsSoundBy};
@@ -36,6 +36,7 @@ pub fn check_outline<S: ViewSet>(
     requires scripted { IsScripted (task (scenario_of scenario.now) outline.now.host) }
     requires made { IsMadeFor (scenario_of scenario.now) outline.now }
     ensures sound { OnOk result (IsSoundFor (scenario_of scenario.now) outline.now) }
+    ensures fields { OnOk result (HostSendsFit (scenario_of scenario.now) outline.now.host) }
     ensures fitting { OnOk result (IsFittingFor (scenario_of scenario.now) outline.now) }
     ensures refusal { IfErr result (IsRefusalFor (scenario_of scenario.now)
         outline.now) }
