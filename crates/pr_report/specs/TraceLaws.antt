@@ -8,14 +8,19 @@ use Rattle.pr_cdb.specs.declared.reply.Status.{Status}
 use Rattle.pr_cdb.specs.declared.reply.Status.TheVariants.{Good, CheckCondition, Conflict, Busy, TaskFull}
 use Rattle.pr_cdb.specs.Requests.{AreBytes}
 use Rattle.pr_registry.specs.Registrations.{State, IsWellFormed}
+use Rattle.pr_unit.specs.UnitStates.{UnitState}
 use Rattle.pr_script.specs.Names.{is_name}
 use Rattle.pr_roles.specs.declared.entry.Entry.{Entry}
 use Rattle.pr_roles.specs.declared.item.Item.{Item}
 use Rattle.pr_roles.specs.declared.item.Item.TheVariants.{Sent, Reset}
 use Rattle.pr_roles.specs.Scenarios.{Scenario}
 use Rattle.pr_roles.specs.Fitting.{Fits}
+use Rattle.pr_roles.specs.Schedules.{Schedule}
+use Rattle.pr_roles.specs.Starts.{IsAllowedStart}
+use Rattle.pr_roles.specs.Worlds.{Event, Run, world_from}
 use Rattle.pr_audit.specs.Ends.{Ending, stops, waits, traps, leaves}
 use Rattle.pr_report.specs.Versions.{has_resets, has_status, most_data, most_items}
+use Rattle.pr_report.specs.Traces.{IsTraceOf}
 use Rattle.pr_report.specs.TraceText.{names_in, trace_text}
 use Rattle.pr_report.specs.TraceReadings.{trace_of}
 
@@ -62,3 +67,10 @@ WrittenTracesAreRead =
     → Fits s → IsWellFormed unit → All (IsItem s.version (length s.nexuses)) history → length history ≤ most_items s.version
     → length ends ≡ length s.nexuses → All IsEnding ends
     → trace_of s.version (names_in s) (trace_text s.version (names_in s) history unit ends counts) ≡ Ok history
+
+-- The trace of a run from an allowed start is read as the run's history, where that has no more items than a trace of the version.
+abbrev pub TracesOfRunsAreRead : Type 0
+TracesOfRunsAreRead =
+    (s : Scenario) (u : UnitState) (es : List Event) (y : Schedule) (text : List ℕ)
+    → Fits s → IsAllowedStart s u → Run s (world_from s u) es y.world → length y.world.history ≤ most_items s.version
+    → IsTraceOf s y text → trace_of s.version (names_in s) text ≡ Ok y.world.history

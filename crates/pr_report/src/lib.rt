@@ -19,7 +19,7 @@ mod verdict;
 mod versions;
 
 pub use entry_reading::number_of;
-pub use laws::written_traces_are_read;
+pub use laws::{traces_of_runs_are_read, written_traces_are_read};
 pub use outline::write_outlines;
 pub use pr_output::WriteFault;
 pub use trace::{held_word, write_trace, write_trace_body};

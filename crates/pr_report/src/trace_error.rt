@@ -14,7 +14,7 @@ pub enum TraceError {
     /// The line is that of an entry whose sender is no nexus of the scenario.
     #[error("unknown name, line {line}")]
     UnknownName { line: u32 },
-    /// There are more than 32,768 entries, or more than 64 lines behind them.
+    /// There are more items than a trace of its version may have, or more than 64 lines behind them.
     #[error("the trace is too long")]
     TooLong,
     /// The reader answered an error.

@@ -1,3 +1,4 @@
 pub mod Controls
 pub mod Refusals
 pub mod Resets
+pub mod SpelledBytes

@@ -1,4 +1,3 @@
 pub mod Counts
-pub mod SpelledBytes
 pub mod SpelledCommands
 pub mod Starts

@@ -87,10 +87,16 @@ all_keys u w = same_keys u.keys (map_where u.hosts (key_of u)) (λ q. at q (nat_
 values_of : (u : State) → IsWellFormed u → map.values u.keys ≡ KeysBelow u.hosts (key_of u)
 values_of u w = ap map.values (all_keys u w)
 
-few_values : (u : State) → IsWellFormed u → length (map.values u.keys) ≤ MOST_NEXUSES
-few_values u w =
+-- no more than there are hosts
+pub few_keys : (u : State) → IsWellFormed u → length (map.values u.keys) ≤ u.hosts
+few_keys u w =
     let few = length-values u.hosts (key_of u) in
     let same = ap length (values_of u w) in
+    omega arith
+
+few_values : (u : State) → IsWellFormed u → length (map.values u.keys) ≤ MOST_NEXUSES
+few_values u w =
+    let few = few_keys u w in
     let most = w.hosts.1 in
     omega arith
 
@@ -121,7 +127,7 @@ length-flat : (ks : List ℕ) → length (flat_map (to_be_bytes w64) ks) ≡ 8 *
 length-flat [] = refl
 length-flat (k ∷ ks) = omega (arith, length-append (to_be_bytes w64 k) (flat_map (to_be_bytes w64) ks), length-flat ks)
 
-length-keys_bytes : (g : ℕ) (ks : List ℕ) → length (keys_bytes g ks) ≡ 8 + 8 * length ks
+pub length-keys_bytes : (g : ℕ) (ks : List ℕ) → length (keys_bytes g ks) ≡ 8 + 8 * length ks
 unfolding keys_bytes
 length-keys_bytes g ks =
     let front = to_be_bytes w32 g ++ to_be_bytes w32 (8 * length ks) in

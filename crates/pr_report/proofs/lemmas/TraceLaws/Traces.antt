@@ -1,5 +1,5 @@
 -- The text of a trace is read back.
-use Rattle.pr_report.proofs.Common.{◌≡◌, ℕ, suc, ◌+◌, ◌*◌, ◌<◌, ◌≤◌, true, false, List, [], ◌∷◌, ◌++◌, length, nat_le, slice_index, Some, None, Ok, codes, decimal, All, Option, sym, refl, ap, ◌∙◌, subst, append_assoc, append-nil, arith, length-append, nat_tests, MOST_NEXUSES, Held, One, Item, joined_by_spaces, line, and_then, later_lines, items_of, trace_in, lines, is_later, names_in, name_of, item_lines, held_word, ending_lines, first_line, unit_line, MOST_LATER_LINES, MOST_LETTERS, MOST_LINE_BYTES}
+use Rattle.pr_report.proofs.Common.{◌≡◌, ℕ, suc, ◌+◌, ◌*◌, ◌<◌, ◌≤◌, true, false, List, [], ◌∷◌, ◌++◌, length, nat_le, slice_index, Some, None, Ok, codes, decimal, All, Option, sym, refl, ap, ◌∙◌, subst, append_assoc, append-nil, arith, length-append, nat_tests, MOST_NEXUSES, Held, One, Item, joined_by_spaces, line, and_then, later_lines, items_of, trace_in, lines, is_later, names_in, name_of, item_lines, held_word, ending_lines, first_line, unit_line, most_items, MOST_LATER_LINES, MOST_LETTERS, MOST_LINE_BYTES}
 use Rattle.std.proofs.Common.{◌^◌}
 use Rattle.std.specs.Int.{w32, to_be_bytes}
 use Rattle.std.specs.List.{AllByRecursion}
@@ -10,7 +10,9 @@ use Rattle.pr_registry.specs.Registrations.{IsWellFormed, State, key_of}
 use Rattle.pr_cdb.specs.Kinds.{code_of}
 use Rattle.pr_audit.specs.Ends.{Ending, stops, waits, traps, leaves}
 use Rattle.pr_output.specs.PrintedLines.{generation_word, key_or_dash, registration_word}
-use Rattle.pr_report.specs.TraceText.{ending_line, registration_words}
+use Rattle.pr_roles.specs.Fitting.{Fits}
+use Rattle.pr_roles.specs.Scenarios.{Scenario}
+use Rattle.pr_report.specs.TraceText.{ending_line, registration_words, trace_text}
 use Rattle.pr_report.specs.TraceLaws.{IsEnding, IsItem, WrittenTracesAreRead}
 use Rattle.pr_report.specs.TraceReadings.{trace_of}
 use Rattle.pr_report.proofs.lemmas.LinesAhead.EntriesInFront.{entries_later, lines_none}
@@ -113,7 +115,7 @@ ending_cut name rest (waits place) sent h k = host_cut name (codes "ready") (dec
 ending_cut name rest (traps place) sent h k = host_cut name (codes "trapped") (decimal place) rest sent h (known 81 (codes "trapped") refl (omega arith)) (number_word place)
 ending_cut name rest (leaves planned) sent h k = kind_cut (codes "guest") name (codes "left") (decimal planned) rest sent (known 5 (codes "guest") refl (omega arith)) h (known 81 (codes "left") refl (omega arith)) (number_word planned) guest_later
 
-abbrev AreEndings : List Ending → Type 0
+abbrev pub AreEndings : List Ending → Type 0
 AreEndings [] = Unit {0}
 AreEndings (e ∷ es) = IsEnding e × AreEndings es
 
@@ -239,12 +241,18 @@ all_items version names n es e h = by_recursion version names es (recursion_from
 all_endings : (es : List Ending) → All IsEnding es → AreEndings es
 all_endings es h = endings_by_recursion es (recursion_from_All IsEnding es h)
 
-pub written_are_read : WrittenTracesAreRead
-written_are_read s es u ends counts fits formed each few ended all =
+-- the text of items that a trace of this version has, which are not too many
+pub text_back : (s : Scenario) (es : List Item) (u : State) (ends : List Ending) (counts : List ℕ) → Fits s → IsWellFormed u → AreItems s.version (names_in s) es → length es ≤ most_items s.version
+    → length ends ≤ MOST_NEXUSES → AreEndings ends → trace_of s.version (names_in s) (trace_text s.version (names_in s) es u ends counts) ≡ Ok es
+text_back s es u ends counts fits formed each few short all =
     let names = names_in s in
     let are = names_fit s fits in
     let rest = unit_line names u ++ ending_lines 0 names counts ends in
-    let short : length ends ≤ MOST_NEXUSES = omega (arith, ended, names_count s, are.few) in
     first_back s.version names (item_lines 0 names es ++ rest)
-    ∙ items_back s.version names es 0 rest are (all_items s.version names (length s.nexuses) es (sym (names_count s)) each) (omega arith)
-    (behind_back s.version names (0 + length es) u ends counts are formed short (all_endings ends all))
+    ∙ items_back s.version names es 0 rest are each (omega arith) (behind_back s.version names (0 + length es) u ends counts are formed short all)
+
+pub written_are_read : WrittenTracesAreRead
+written_are_read s es u ends counts fits formed each few ended all =
+    let names = names_in s in
+    let short : length ends ≤ MOST_NEXUSES = omega (arith, ended, names_count s, (names_fit s fits).few) in
+    text_back s es u ends counts fits formed (all_items s.version names (length s.nexuses) es (sym (names_count s)) each) few short (all_endings ends all)

@@ -1,5 +1,10 @@
 -- What a command is spelled as are bytes, as many as a wire holds.
-use Rattle.pr_world.proofs.Common.{◌≡◌, ℕ, zero, suc, ◌<◌, ◌≤◌, Bool, true, false, List, [], ◌∷◌, ◌++◌, length, nat_lt, Some, None, Option, refl, arith, list_all, nat_tests, spelling, Command, MOST_CDB_LENGTH, PARAMETER_LIST_LENGTH}
+use Rattle.std.proofs.Common.{◌≡◌, ℕ, zero, suc, ◌<◌, ◌≤◌, Bool, true, false, List, [], ◌∷◌, ◌++◌, length, nat_lt, Some, None, Option, refl, arith}
+use Rattle.std.specs.List.{list_all}
+use Rattle.std.proofs.lemmas.Bool.Decides.{nat_tests}
+use Rattle.pr_cdb.specs.declared.codes.TheConstants.{MOST_CDB_LENGTH, PARAMETER_LIST_LENGTH}
+use Rattle.pr_cdb.specs.declared.command.Command.{Command}
+unfoldable use Rattle.pr_cdb.specs.Spelling.{spelling}
 use Rattle.std.proofs.Common.{◌/◌, ◌%◌, ◌^◌, ◌&&◌}
 use Rattle.std.specs.Int.{w16, w32, w64, byte_at, bytes_high_first, to_be_bytes}
 use Rattle.pr_cdb.specs.declared.command.Kind.{Kind}
@@ -9,14 +14,14 @@ use Rattle.pr_cdb.specs.Kinds.{code_of}
 use Rattle.pr_cdb.specs.Requests.{AreBytes}
 use Rattle.pr_cdb.specs.Spelling.{kind_byte, transfer, reserve_in, reserve_out}
 
-none : AreBytes []
+pub none : AreBytes []
 none i = omega arith
 
-more : (b : ℕ) (bs : List ℕ) → b < 256 → AreBytes bs → AreBytes (b ∷ bs)
+pub more : (b : ℕ) (bs : List ℕ) → b < 256 → AreBytes bs → AreBytes (b ∷ bs)
 more b bs small rest zero = small
 more b bs small rest (suc i) = rest i
 
-both : (bs cs : List ℕ) → AreBytes bs → AreBytes cs → AreBytes (bs ++ cs)
+pub both : (bs cs : List ℕ) → AreBytes bs → AreBytes cs → AreBytes (bs ++ cs)
 both [] cs first rest = rest
 both (b ∷ bs) cs first rest = more b (bs ++ cs) (first 0) (both bs cs (λ i. first (suc i)) rest)
 
@@ -27,11 +32,11 @@ byte_small : (i n : ℕ) → byte_at i n < 256
 byte_small zero n = remainder_small n
 byte_small (suc i) n = remainder_small (n / 256 ^ suc i)
 
-number : (k n : ℕ) → AreBytes (bytes_high_first k n)
+pub number : (k n : ℕ) → AreBytes (bytes_high_first k n)
 number zero n = none
 number (suc k) n = more (byte_at k n) (bytes_high_first k n) (byte_small k n) (number k n)
 
-literal : (bs : List ℕ) → list_all (λ b. nat_lt b 256) bs ≡ true → AreBytes bs
+pub literal : (bs : List ℕ) → list_all (λ b. nat_lt b 256) bs ≡ true → AreBytes bs
 literal [] is = none
 literal (b ∷ bs) is = at (nat_lt b 256) (list_all (λ x. nat_lt x 256) bs) refl is (literal bs)
   where

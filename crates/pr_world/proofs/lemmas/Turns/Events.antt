@@ -10,7 +10,7 @@ use Rattle.pr_roles.specs.Worlds.{is_guest}
 use Rattle.pr_roles.specs.Schedules.{TakenAnswer}
 use Rattle.pr_world.specs.inside.Participations.{items_of, participation}
 use Rattle.pr_world.specs.inside.Turns.{Acts, ActsAs, GuestActs, HostActs, SendsOr}
-use Rattle.pr_world.proofs.lemmas.Courses.SpelledBytes.{are_bytes, are_short}
+use Rattle.pr_roles.proofs.lemmas.Worlds.SpelledBytes.{are_bytes, are_short}
 use Rattle.pr_world.proofs.lemmas.Participations.Others.{at_participation, control_at, has_task, rests, with_participation, world_after, world_by}
 
 -- ---- answers
