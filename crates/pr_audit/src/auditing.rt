@@ -13,7 +13,7 @@ use thiserror::Error;
 #[derive(Clone, Copy, Debug, PartialEq, Eq, Error)]
 pub enum AuditError {
     /// The item at this place, counted from 1, is the first that isn't legal.
-    #[error("illegal, entry {place}")]
+    #[error("illegal, item {place}")]
     Illegal { place: usize },
     /// Memory ran out.
     #[error("out of memory")]
