@@ -133,7 +133,7 @@ fn fault_for(scenario: &Scenario, error: &RunError) -> Fault
     match error {
         RunError::Memory => Fault::Memory,
         RunError::Spawn { host, .. } => { Fault::Thread(name_at(&scenario.parts().nexuses, *host)) }
-        RunError::Differs => Fault::History,
+        RunError::Differs(_) => Fault::History,
     }
 }
 

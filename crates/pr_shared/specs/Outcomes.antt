@@ -1,6 +1,6 @@
 -- Agrees with docs/FORMATS.md, 'Running'.
 -- What a run over threads comes to, and when a world is closed.
-use Rattle.std.specs.Prelude.{◌≡◌, ℕ, ◌≤◌, ◌==◌, Bool, true, false, IsTrue, List, [], Option, Some, None, length, map}
+use Rattle.std.specs.Prelude.{◌≡◌, ℕ, ◌<◌, ◌≤◌, ◌⊎◌, ◌==◌, Bool, true, false, IsTrue, List, [], Option, Some, None, length, map}
 use Rattle.std.specs.List.{list_all, range_with_len}
 use Rattle.pr_unit.specs.UnitStates.{UnitState}
 use Rattle.pr_roles.specs.declared.step.Step.{Step}
@@ -59,3 +59,19 @@ pub record IsHalted (s : Scenario) (host : ℕ) (history : List Item) : Type 0 w
   pub first : first_state s ≡ Some start
   pub legal : IsLegal s start history
   pub none : (h : ℕ) → host ≤ h → entries_of history h ≡ []
+
+-- The world is one of this scenario, each of these lists is what its nexus sent, and those after them have sent nothing.
+pub record IsHaltedWith (s : Scenario) (mine : List (List Entry)) (w : Progress) : Type 0 where
+  pub scenario : scenario_of w.scenario ≡ s
+  pub own : entries_by (length mine) w.schedule.world.history ≡ mine
+  pub none : (h : ℕ) → length mine ≤ h → entries_of w.schedule.world.history h ≡ []
+
+-- the world that is handed out is not halted with the lists beside it
+abbrev pub IsNotHaltedBy : Scenario → Differs → Type 0
+IsNotHaltedBy s d = ¬ IsHaltedWith s (lists_of d.mine.items) d.world
+
+-- What a run compared in vain: with the lists of all nexuses the world is not closed, or with those of some, since a thread could
+-- not be started, it is not halted.
+abbrev pub IsCause : Scenario → Differs → Type 0
+IsCause s d =
+    ((length d.mine.items ≡ length s.nexuses) × DiffersFrom s d) ⊎ ((length d.mine.items < length s.nexuses) × IsNotHaltedBy s d)

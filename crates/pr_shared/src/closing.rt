@@ -5,10 +5,10 @@ ghost use Rattle.std.specs.List.{list_all};
 ghost use Rattle.pr_roles.specs.Scenarios.{scenario_of};
 ghost use Rattle.pr_audit.specs.Ends.{ending_of};
 ghost use Rattle.pr_shared.specs.Histories.{entries_of, entries_by, lists_of};
-ghost use Rattle.pr_shared.specs.Outcomes.{AreOver, IsClosed, IsOutcome, is_over};
+ghost use Rattle.pr_shared.specs.Outcomes.{AreOver, IsClosed, IsHaltedWith, IsOutcome, is_over};
 ghost use Rattle.pr_shared.specs.inside.Seating.{HasRoomFor};
 ghost use Rattle.pr_shared.specs.inside.Senders.{is_sent_before};
-ghost use Rattle.pr_shared.specs.inside.WorldEnds.{AreEndsOf};
+ghost use Rattle.pr_shared.specs.inside.WorldEnds.{AreEndsOf, AreOne};
 
 use crate::outcome::Outcome;
 use pr_audit::End;
@@ -25,17 +25,26 @@ pub(crate) fn is_closed(
     requires { AreEndsOf world.now ends.now }
     ensures { IsTrue result ↔ IsClosed (scenario_of scenario.now) (lists_of lists.now) world.now }
 {
-    if !world.scenario().same(scenario) {
-        return false;
-    }
-    if !are_own(lists, world.history()) {
-        return false;
-    }
-    are_over(ends)
+    are_one(scenario, world, lists) && are_over(ends)
 }
 
-/// Whether each list is what its nexus sent.
-pub(crate) fn are_own(lists: &[Vec<Entry>], history: &[Item]) -> bool
+/// Whether the world is one of this scenario, each list is what its nexus sent, and nobody else has sent anything.
+pub(crate) fn is_halted(scenario: &Scenario, world: &World, lists: &[Vec<Entry>]) -> bool
+    ensures { IsTrue result ↔ IsHaltedWith (scenario_of scenario.now) (lists_of lists.now)
+        world.now }
+{
+    are_one(scenario, world, lists) && are_before(lists.len(), world.history())
+}
+
+// Whether the world is one of this scenario, and each list is what its nexus sent.
+fn are_one(scenario: &Scenario, world: &World, lists: &[Vec<Entry>]) -> bool
+    ensures { IsTrue result ↔ AreOne (scenario_of scenario.now) (lists_of lists.now) world.now }
+{
+    world.scenario().same(scenario) && are_own(lists, world.history())
+}
+
+// Whether each list is what its nexus sent.
+fn are_own(lists: &[Vec<Entry>], history: &[Item]) -> bool
     ensures { IsTrue result ↔ (entries_by (length lists.now) history.now ≡ lists_of lists.now) }
 {
     for (host, mine) in lists.iter().enumerate() {
@@ -71,8 +80,8 @@ fn is_same(entry: &Entry, other: &Entry) -> bool
     entry == other
 }
 
-/// Whether only those before this one have sent anything.
-pub(crate) fn are_before(count: usize, history: &[Item]) -> bool
+// Whether only those before this one have sent anything.
+fn are_before(count: usize, history: &[Item]) -> bool
     ensures { result ≡ list_all (is_sent_before count) history.now }
 {
     history.iter().all(|item| is_before(item, count))

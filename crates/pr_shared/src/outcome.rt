@@ -4,6 +4,7 @@ use pr_audit::End;
 use pr_roles::{Entry, Item};
 use pr_unit::Unit;
 use pr_world::World;
+use std::fmt;
 
 /// What a run came to: each host's script is stopped, and each guest's plan is done.
 #[derive(Debug, Drop)]
@@ -25,4 +26,10 @@ pub struct Differs {
 
     /// The entries that each seat's turns answered, by the numbers of their nexuses.
     pub mine: Vec<Vec<Entry>>,
+}
+
+impl fmt::Debug for Differs {
+    fn fmt<W: fmt::Write>(&self, f: &mut fmt::Formatter<W>) -> fmt::Result {
+        f.write_str("Differs")
+    }
 }

@@ -1,5 +1,6 @@
 //! Why a run came to no outcome.
 
+use crate::outcome::Differs;
 use pr_roles::Item;
 use std::alloc::AllocError;
 use thiserror::Error;
@@ -14,9 +15,9 @@ pub enum RunError {
     /// to their end, and this is their history.
     #[error("no thread for host {host}")]
     Spawn { host: u8, history: Vec<Item> },
-    /// The world and the seats don't belong together, or one of them has not come to its end.
+    /// The world and the seats don't belong together, or a nexus has not come to its end: what was compared.
     #[error("the world differs from the seats")]
-    Differs,
+    Differs(Differs),
 }
 
 impl From<AllocError> for RunError {

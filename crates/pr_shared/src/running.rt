@@ -1,11 +1,11 @@
 //! Runs: the turns of a verified scenario, taken by a thread for each nexus.
 
-ghost use Rattle.std.specs.Prelude.{◌≡◌, ◌↔◌, ◌<◌, IsTrue, IfOk, IfErr, true, length};
-ghost use Rattle.std.specs.List.{All, range_with_len};
+ghost use Rattle.std.specs.Prelude.{◌≡◌, ◌<◌, IfOk, IfErr, length};
+ghost use Rattle.std.specs.List.{range_with_len};
 ghost use Rattle.pr_roles.specs.Scenarios.{scenario_of};
 ghost use Rattle.pr_shared.specs.Guests.{guests_of};
-ghost use Rattle.pr_shared.specs.Outcomes.{IsHalted, IsOutcome};
-ghost use Rattle.pr_shared.specs.RunAnswers.{IfSpawn, IsNexusOf};
+ghost use Rattle.pr_shared.specs.Outcomes.{IsCause, IsHalted, IsOutcome};
+ghost use Rattle.pr_shared.specs.RunAnswers.{IfDiffers, IfSpawn, IsNexusOf};
 ghost use Rattle.pr_shared.specs.Seats.{HaveKept};
 ghost use Rattle.pr_shared.specs.inside.Seating.{hosts_of};
 ghost use Rattle.pr_shared.specs.inside.Starting.{StartedBut};
@@ -39,6 +39,7 @@ pub fn run<G: Gate, R: Threads + Wait + Sync>(
     ensures outcome { IfOk result (IsOutcome (scenario_of verified)) }
     ensures known { IfErr result (IfSpawn (IsNexusOf (scenario_of verified))) }
     ensures halted { IfErr result (IfSpawn (IsHalted (scenario_of verified))) }
+    ensures differs { IfErr result (IfDiffers (IsCause (scenario_of verified))) }
 {
     let nexuses = verified.scenario().parts().nexuses.len();
     run_as::<Brand, G, R>(rt, alloc, verified, Blank::new(nexuses as u64), gate)
@@ -59,6 +60,7 @@ fn run_as<C: Round + Send + Sync, G: Gate, R: Threads + Wait + Sync>(
     ensures outcome { IfOk result (IsOutcome (scenario_of verified)) }
     ensures known { IfErr result (IfSpawn (IsNexusOf (scenario_of verified))) }
     ensures halted { IfErr result (IfSpawn (IsHalted (scenario_of verified))) }
+    ensures differs { IfErr result (IfDiffers (IsCause (scenario_of verified))) }
 {
     let nexuses = verified.scenario().parts().nexuses.len();
     let started = Vec::with_capacity(alloc, nexuses)?;
@@ -86,24 +88,16 @@ fn settled<C: Round>(
     ensures known { IfErr result (IfSpawn (λ host history. host < length C.guests)) }
     ensures halted { IfErr result (IfSpawn (IsHalted (scenario_of shared.kept.scenario))) }
     ensures sent { IfErr result (IfSpawn (λ host history. HaveKept host seats.items history)) }
+    ensures differs { IfErr result (IfDiffers (IsCause (scenario_of shared.kept.scenario))) }
 {
-    if let Some(host) = failed {
-        return match shared.halt(seats) {
-            Some(history) => Err(RunError::Spawn { host, history }),
-            None => Err(RunError::Differs),
+    let Some(host) = failed else {
+        return match shared.settle(seats) {
+            Ok(outcome) => Ok(outcome),
+            Err(differs) => Err(RunError::Differs(differs)),
         };
+    };
+    match shared.halt(seats) {
+        Ok(history) => Err(RunError::Spawn { host, history }),
+        Err(differs) => Err(RunError::Differs(differs)),
     }
-    if !have_ended(&seats) {
-        return Err(RunError::Differs);
-    }
-    match shared.close(seats) {
-        Ok(outcome) => Ok(outcome),
-        Err(_) => Err(RunError::Differs),
-    }
-}
-
-fn have_ended<C: Round>(seats: &[Seat<C>]) -> bool
-    ensures { IsTrue result ↔ All (λ s. s.ended ≡ true) seats.now }
-{
-    seats.iter().all(|seat| seat.ended())
 }

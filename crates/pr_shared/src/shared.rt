@@ -1,17 +1,17 @@
 //! A verified scenario under a lock.
 
-ghost use Rattle.std.specs.Prelude.{◌≡◌, ◌≤◌, ◌++◌, [], true, false, Some, length, IfOk, IfErr, IfSome, OnOk, vec_len, vec_capacity};
+ghost use Rattle.std.specs.Prelude.{◌≡◌, ◌≤◌, ◌++◌, [], true, false, Some, length, IfOk, IfErr, OnOk, vec_len, vec_capacity};
 ghost use Rattle.std.specs.List.{All, slice_get};
 ghost use Rattle.pr_roles.specs.Scenarios.{scenario_of};
 ghost use Rattle.pr_world.specs.Progress.{IsLegalProgress};
 ghost use Rattle.pr_world.specs.StepAnswers.{IfSent, IfHeld};
 ghost use Rattle.pr_shared.specs.Guests.{guests_of};
 ghost use Rattle.pr_shared.specs.Histories.{EndsLegally, lists_of, sent_in, sent_so_far};
-ghost use Rattle.pr_shared.specs.Outcomes.{DiffersFrom, IsHalted, IsOutcome};
+ghost use Rattle.pr_shared.specs.Outcomes.{DiffersFrom, IsHalted, IsNotHaltedBy, IsOutcome};
 ghost use Rattle.pr_shared.specs.Seats.{AreInOrder, HaveRoom, HaveKept, kept_by, number_kept};
 ghost use Rattle.pr_shared.specs.TurnAnswers.{MayTurn, added_by, is_stopped};
 
-use crate::closing::{are_before, are_own, ends_of, is_closed, outcome_of};
+use crate::closing::{ends_of, is_closed, is_halted, outcome_of};
 use crate::gathering::gathered;
 use crate::kept::Kept;
 use crate::locked::Locked;
@@ -127,6 +127,24 @@ impl<C: Round> SharedWorld<C> {
         ensures total { IfErr result (λ differs. sent_so_far differs.world
             ≡ number_kept seats.items) }
     {
+        self.settle(seats)
+    }
+
+    /// The same, whether or not each seat has ended.
+    pub(crate) fn settle(self, seats: Vec<Seat<C>>) -> Result<Outcome, Differs>
+        requires parts { C.parts ≡ length C.guests }
+        requires in_order { AreInOrder (length C.guests) seats.items }
+        ensures outcome { IfOk result (IsOutcome (scenario_of self.kept.scenario)) }
+        ensures own { IfOk result (λ outcome. HaveKept (length C.guests) seats.items
+            outcome.history.items) }
+        ensures counted { IfOk result (λ outcome. sent_in outcome.history.items
+            ≡ number_kept seats.items) }
+        ensures cause { IfErr result (DiffersFrom (scenario_of self.kept.scenario)) }
+        ensures mine { IfErr result (λ differs. lists_of differs.mine.items ≡ kept_by seats.items) }
+        ensures legal { IfErr result (λ differs. IsLegalProgress differs.world) }
+        ensures total { IfErr result (λ differs. sent_so_far differs.world
+            ≡ number_kept seats.items) }
+    {
         let SharedWorld { lock, kept } = self;
         let Kept {
             scenario,
@@ -143,14 +161,15 @@ impl<C: Round> SharedWorld<C> {
         Ok(outcome_of(world, ends))
     }
 
-    /// The history, where only these seats, the first ones, took turns. There is none where the world and the seats don't
-    /// belong together.
-    pub(crate) fn halt(self, seats: Vec<Seat<C>>) -> Option<Vec<Item>>
+    /// The history, where only these seats, the first ones, took turns. Where the world and the lists don't belong together, they
+    /// are handed out.
+    pub(crate) fn halt(self, seats: Vec<Seat<C>>) -> Result<Vec<Item>, Differs>
         requires { vec_len seats ≤ length C.guests }
-        ensures halted { IfSome result (λ history. IsHalted (scenario_of self.kept.scenario)
+        ensures halted { IfOk result (λ history. IsHalted (scenario_of self.kept.scenario)
             (vec_len seats) history.items) }
-        ensures own { IfSome result (λ history. HaveKept (vec_len seats) seats.items
-            history.items) }
+        ensures own { IfOk result (λ history. HaveKept (vec_len seats) seats.items history.items) }
+        ensures cause { IfErr result (IsNotHaltedBy (scenario_of self.kept.scenario)) }
+        ensures mine { IfErr result (λ differs. lists_of differs.mine.items ≡ kept_by seats.items) }
     {
         let SharedWorld { lock, kept } = self;
         let Kept {
@@ -164,17 +183,13 @@ impl<C: Round> SharedWorld<C> {
             mut rest,
         } = lock.into_inner();
         let mine = gathered(seats, mine, &mut rest);
-        if !world.scenario().same(&scenario) {
-            return None;
-        }
-        if !are_own(&mine, world.history()) {
-            return None;
-        }
-        if !are_before(mine.len(), world.history()) {
-            return None;
+        // By this reader a proof knows that the history is legal.
+        let _legal = world.history();
+        if !is_halted(&scenario, &world, &mine) {
+            return Err(Differs { world, mine });
         }
         let (history, _) = world.into_parts();
-        Some(history)
+        Ok(history)
     }
 }
 

@@ -49,7 +49,7 @@ TellsOf name fault.Output = ⊥
 abbrev pub IsFaultFor : Scenario → RunError → Fault → Type 0
 IsFaultFor s error.Memory f = f ≡ fault.Memory
 IsFaultFor s (error.Spawn host history) f = TellsOf (name_of (names_in s) host) f
-IsFaultFor s error.Differs f = f ≡ fault.History
+IsFaultFor s (error.Differs differs) f = f ≡ fault.History
 
 -- it may come of the scenario's run
 abbrev pub IsRunFault : Scenario → Fault → Type 0

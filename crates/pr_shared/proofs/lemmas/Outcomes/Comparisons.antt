@@ -1,8 +1,8 @@
 -- What a comparison of a world with the seats' lists says.
-use Rattle.std.proofs.Common.{◌≡◌, ℕ, ◌+◌, ◌<◌, ◌≤◌, ◌==◌, Bool, true, false, IsTrue, List, [], ◌∷◌, ◌++◌, length, take, get_or, Option, Some, None, refl, sym, ap, ◌∙◌, subst, arith}
+use Rattle.std.proofs.Common.{◌≡◌, ℕ, ◌+◌, ◌<◌, ◌≤◌, ◌==◌, ◌&&◌, Bool, true, false, IsTrue, List, [], ◌∷◌, ◌++◌, length, take, get_or, Option, Some, None, refl, sym, ap, ◌∙◌, subst, arith}
 use Rattle.std.specs.Prelude.{◌↔◌, if◌then◌else◌, map, nat_lt}
 use Rattle.std.specs.List.{cons_option, list_all, range_with_len}
-use Rattle.std.proofs.lemmas.Bool.{and_parts, false≢true}
+use Rattle.std.proofs.lemmas.Bool.{and_parts}
 use Rattle.std.proofs.lemmas.Bool.Decides.{nat_tests}
 use Rattle.std.proofs.lemmas.List.{get_or-map, length-map, map-append, map_more, take_all}
 use Rattle.std.proofs.lemmas.List.Folds.{list_all-map}
@@ -10,7 +10,6 @@ use Rattle.std.proofs.lemmas.List.FromFn.{get_or-map-range_with_len, length-rang
 use Rattle.pr_roles.specs.declared.entry.Entry.{Entry}
 use Rattle.pr_roles.specs.declared.item.Item.{Item}
 use Rattle.pr_roles.specs.declared.item.Item.TheVariants.{Sent, Reset}
-use Rattle.pr_roles.specs.declared.parts.Parts.{Parts}
 use Rattle.pr_roles.specs.declared.step.Step.{Step}
 use Rattle.pr_roles.specs.Scenarios.{Scenario, scenario_of}
 use Rattle.pr_roles.specs.Schedules.{Schedule, plan}
@@ -23,7 +22,8 @@ use Rattle.pr_world.specs.Progress.{Progress}
 use Rattle.pr_shared.specs.Guests.{guests_of}
 use Rattle.pr_shared.specs.Histories.{entries_by, entries_of}
 use Rattle.pr_shared.specs.inside.Senders.{is_sent_before}
-use Rattle.pr_shared.specs.Outcomes.{IsClosed, IsHalted, endings_in, is_over}
+use Rattle.pr_shared.specs.inside.WorldEnds.{AreOne}
+use Rattle.pr_shared.specs.Outcomes.{IsClosed, IsHalted, IsHaltedWith, endings_in, is_over}
 
 -- ---- list by list
 
@@ -47,33 +47,14 @@ all_own f g xs i within past before =
 
 -- ---- the whole
 
-pub not_same : (s : Scenario) (mine : List (List Entry)) (w : Progress) (p : Parts) (b : Bool) → b ≡ false → p ≡ w.scenario → IsTrue b ↔ (scenario_of p ≡ s) → IsTrue false ↔ IsClosed s mine w
-not_same s mine w p b not is tells = (
-  λ no. absurd (false≢true no),
-  λ closed. absurd (false≢true (sym not ∙ tells.1 (ap scenario_of is ∙ closed.scenario))),
-)
-
-pub not_own : {X : Type 0} (s : Scenario) (w : Progress) (xs : List X) (g : X → List Entry) (history : List Item) (b : Bool) → b ≡ false → history ≡ w.schedule.world.history
-    → IsTrue b ↔ (entries_by (length xs) history ≡ map g xs) → IsTrue false ↔ IsClosed s (map g xs) w
-not_own s w xs g history b not is tells = (
-  λ no. absurd (false≢true no),
-  λ closed. absurd (false≢true (sym not ∙ tells.1 (ap (entries_by (length xs)) is ∙ (sym (ap (λ n. entries_by n w.schedule.world.history) (length-map xs g)) ∙ closed.own)))),
-)
-
 over_is : (s : Scenario) (w : Progress) (ends : List End) → map (λ e. Some (ending_of e)) ends ≡ endings_in s w.schedule → list_all (λ e. is_over (Some (ending_of e))) ends ≡ list_all is_over (endings_in s w.schedule)
 over_is s w ends are = sym (list_all-map is_over (λ e. Some (ending_of e)) ends) ∙ ap (list_all is_over) are
 
-pub just_over : {X : Type 0} (s : Scenario) (w : Progress) (p : Parts) (xs : List X) (g : X → List Entry) (history : List Item) (ends : List End) (a b r : Bool) → a ≡ true → p ≡ w.scenario
-    → IsTrue a ↔ (scenario_of p ≡ s) → b ≡ true → history ≡ w.schedule.world.history → IsTrue b ↔ (entries_by (length xs) history ≡ map g xs)
-    → map (λ e. Some (ending_of e)) ends ≡ endings_in (scenario_of w.scenario) w.schedule → r ≡ list_all (λ e. is_over (Some (ending_of e))) ends → IsTrue r ↔ IsClosed s (map g xs) w
-just_over s w p xs g history ends a b r same is tells own is' tells' are over =
+pub just_over : (s : Scenario) (mine : List (List Entry)) (w : Progress) (ends : List End) (a r : Bool) → a ≡ true → IsTrue a ↔ AreOne s mine w
+    → map (λ e. Some (ending_of e)) ends ≡ endings_in (scenario_of w.scenario) w.schedule → r ≡ list_all (λ e. is_over (Some (ending_of e))) ends → IsTrue r ↔ IsClosed s mine w
+just_over s mine w ends a r one tells are over =
     let all = over ∙ over_is (scenario_of w.scenario) w ends are in (
-      λ yes.
-          record {
-            scenario = sym (ap scenario_of is) ∙ tells.0 same;
-            own = ap (λ n. entries_by n w.schedule.world.history) (length-map xs g) ∙ (sym (ap (entries_by (length xs)) is') ∙ tells'.0 own);
-            over = sym all ∙ yes;
-          },
+      λ yes. record { scenario = (tells.0 one).scenario; own = (tells.0 one).own; over = sym all ∙ yes },
       λ closed. all ∙ closed.over,
     )
 
@@ -86,6 +67,44 @@ none_past (Sent e ∷ items) count h before past =
     let other : (e.host == h) ≡ false = grind (arith, nat_tests, parts.0) in
     ap (λ b. cons_option (if b then Some e else None) (entries_of items h)) other ∙ none_past items count h parts.1 past
 none_past (Reset ∷ items) count h before past = none_past items count h before past
+
+some_past : (history : List Item) (count : ℕ) → ((h : ℕ) → count ≤ h → entries_of history h ≡ []) → list_all (is_sent_before count) history ≡ true
+some_past [] count none = refl
+some_past (Reset ∷ items) count none = some_past items count none
+some_past (Sent e ∷ items) count none = at (nat_lt e.host count) refl (some_past items count others)
+  where
+    others : (h : ℕ) → count ≤ h → entries_of items h ≡ []
+    others h past = by (e.host == h) (none h past)
+      where
+        by : (b : Bool) → cons_option (if b then Some e else None) (entries_of items h) ≡ [] → entries_of items h ≡ []
+        by true all = let bad : e ∷ entries_of items h ≡ [] = all in cc
+        by false all = all
+
+    itself : (n : ℕ) → (n == n) ≡ true
+    itself n = grind (arith, nat_tests)
+
+    at : (b : Bool) → nat_lt e.host count ≡ b → list_all (is_sent_before count) items ≡ true → (nat_lt e.host count && list_all (is_sent_before count) items) ≡ true
+    at true before rest = ap (λ b. b && list_all (is_sent_before count) items) before ∙ rest
+    at false before rest =
+        let past : count ≤ e.host = grind (arith, nat_tests, before) in
+        let sent = none e.host past in
+        let bad : e ∷ entries_of items e.host ≡ [] = sym (ap (λ b. cons_option (if b then Some e else None) (entries_of items e.host)) (itself e.host)) ∙ sent in
+        cc
+
+pub just_halted : {X : Type 0} (s : Scenario) (w : Progress) (xs : List X) (g : X → List Entry) (history : List Item) (count : ℕ) (a r : Bool) → a ≡ true → IsTrue a ↔ AreOne s (map g xs) w
+    → history ≡ w.schedule.world.history → count ≡ length xs → r ≡ list_all (is_sent_before count) history → IsTrue r ↔ IsHaltedWith s (map g xs) w
+just_halted s w xs g history count a r one tells is all before = (
+  λ yes.
+      record {
+        scenario = (tells.0 one).scenario;
+        own = (tells.0 one).own;
+        none = λ h past. ap (λ items. entries_of items h) (sym is) ∙ none_past history count h (sym before ∙ yes) (omega (arith, long, past));
+      },
+  λ halted. before ∙ some_past history count (λ h past. ap (λ items. entries_of items h) is ∙ halted.none h (omega (arith, long, past))),
+)
+  where
+    long : length (map g xs) ≡ count
+    long = length-map xs g ∙ sym all
 
 -- ---- how each stands
 
@@ -104,6 +123,10 @@ ordered_length xs f n order = sym (length-map xs f) ∙ (ap length order ∙ len
 pub guests_length : (s : Scenario) (guests : List Bool) → guests_of s ≡ guests → length s.nexuses ≡ length guests
 guests_length s guests are = sym (length-map s.nexuses (λ n. is_planned n.task)) ∙ ap length are
 
+-- there are as many as seats
+pub lists_length : {X Y : Type 0} (lists : List X) (g : X → List Entry) (seats : List Y) (f : Y → List Entry) → map g lists ≡ map f seats → length lists ≡ length seats
+lists_length lists g seats f mine = sym (length-map lists g) ∙ (ap length mine ∙ length-map seats f)
+
 -- so many lists, which are those of the seats, are what was sent
 own_lists : {X Y : Type 0} (lists xs : List X) (g : X → List Entry) (seats : List Y) (f : Y → List Entry) (sent history : List Item) (n : ℕ) → lists ≡ xs → map g xs ≡ map f seats → length seats ≡ n
     → history ≡ sent → entries_by (length lists) sent ≡ map g lists → entries_by n history ≡ map f seats
@@ -116,21 +139,21 @@ pub closed_own : {X Y : Type 0} (s : Scenario) (w : Progress) (lists xs : List X
 closed_own s w lists xs g seats f history n closed same mine long is =
     own_lists lists xs g seats f w.schedule.world.history history n same mine long is (ap (λ k. entries_by k w.schedule.world.history) (sym (length-map lists g)) ∙ closed.own)
 
-pub halted_own : {X Y : Type 0} (lists xs : List X) (g : X → List Entry) (seats : List Y) (f : Y → List Entry) (sent known history : List Item) (n : ℕ) → lists ≡ xs → map g xs ≡ map f seats
-    → length seats ≡ n → known ≡ sent → history ≡ sent → entries_by (length lists) known ≡ map g lists → entries_by n history ≡ map f seats
-halted_own lists xs g seats f sent known history n same mine long is is' own =
-    own_lists lists xs g seats f sent history n same mine long is' (ap (entries_by (length lists)) (sym is) ∙ own)
+pub halted_own : {X Y : Type 0} (s : Scenario) (w : Progress) (lists xs : List X) (g : X → List Entry) (seats : List Y) (f : Y → List Entry) (history : List Item) (n : ℕ) → IsHaltedWith s (map g lists) w
+    → lists ≡ xs → map g xs ≡ map f seats → length seats ≡ n → history ≡ w.schedule.world.history → entries_by n history ≡ map f seats
+halted_own s w lists xs g seats f history n halted same mine long is =
+    own_lists lists xs g seats f w.schedule.world.history history n same mine long is (ap (λ k. entries_by k w.schedule.world.history) (sym (length-map lists g)) ∙ halted.own)
 
 -- ---- a history that was halted
 
-pub halted : (s t : Scenario) (y : Schedule) (known history : List Item) (count n : ℕ) → t ≡ s → (steps : List Step) × IsReached t steps y → known ≡ y.world.history → list_all (is_sent_before count) known ≡ true → count ≡ n
-    → history ≡ y.world.history → IsHalted s n history
-halted s t y known history count n same legal is before all is' =
-    let here : (steps : List Step) × IsReached s steps y = subst (λ u. (steps : List Step) × IsReached u steps y) same legal in
-    let less : list_all (is_sent_before n) history ≡ true = subst (λ k. list_all (is_sent_before k) history ≡ true) all (subst (λ items. list_all (is_sent_before count) items ≡ true) (is ∙ sym is') before) in
+pub halted : {X Y : Type 0} (s : Scenario) (w : Progress) (lists xs : List X) (g : X → List Entry) (seats : List Y) (f : Y → List Entry) (history : List Item) (n : ℕ) → IsHaltedWith s (map g lists) w
+    → lists ≡ xs → map g xs ≡ map f seats → length seats ≡ n → (steps : List Step) × IsReached (scenario_of w.scenario) steps w.schedule → history ≡ w.schedule.world.history → IsHalted s n history
+halted s w lists xs g seats f history n with same mine long legal is =
+    let here : (steps : List Step) × IsReached s steps w.schedule = subst (λ u. (steps : List Step) × IsReached u steps w.schedule) with.scenario legal in
+    let all : length (map g lists) ≡ n = ap length (ap (map g) same ∙ mine) ∙ (length-map seats f ∙ long) in
     record {
       start = here.1.start;
       first = here.1.first;
-      legal = (here.1.events, y.world, here.1.run, sym is');
-      none = λ h past. none_past history n h less past;
+      legal = (here.1.events, w.schedule.world, here.1.run, sym is);
+      none = λ h past. ap (λ items. entries_of items h) is ∙ with.none h (omega (arith, all, past));
     }

@@ -1,7 +1,7 @@
 use Rattle.std.proofs.Common.{◌∙◌, arith}
 use Rattle.pr_roles.specs.Scenarios.{scenario_of}
 use Rattle.pr_shared.proofs.lemmas.Outcomes.Comparisons.{closed_own, guests_length, ordered_length}
-use Rattle.pr_shared.proofs.shared.SharedWorld.close.Goals as goal
+use Rattle.pr_shared.proofs.shared.SharedWorld.settle.Goals as goal
 
 pub finish-world-requires-clause-one_each : goal.finish-world-requires-clause-one_each
 finish-world-requires-clause-one_each g c = c.args.seats.ok.0 ∙ ordered_length c.args.seats.items (λ s. s.host) _ c.requires.in_order
