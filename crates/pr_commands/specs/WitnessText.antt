@@ -1,17 +1,13 @@
 -- Agrees with docs/FORMATS.md, 'Witness text'.
 -- The text of a witness: what is broken, the state from which the run starts, and the run as a trace has it.
-use Rattle.std.specs.Prelude.{ℕ, ◌-◌, ◌==◌, Bool, true, false, ◌||◌, if◌then◌else◌, List, [], ◌∷◌, ◌++◌, codes, length, map, slice_index, Option, None, Some}
+use Rattle.std.specs.Prelude.{ℕ, ◌==◌, Bool, true, false, ◌||◌, if◌then◌else◌, List, [], ◌∷◌, ◌++◌, codes, map, slice_index, Option, None, Some}
 use Rattle.std.specs.Fmt.{decimal}
-use Rattle.std.specs.List.{flat_map, range_with_len, slice_get}
-use Rattle.std.specs.Option.{option_map_or}
+use Rattle.std.specs.List.{flat_map, range_with_len}
 use Rattle.pr_attention.specs.Attentions.{power_on, reservations_preempted, reservations_released, registrations_preempted}
-use Rattle.pr_domain.specs.declared.landing.Class.{Class}
-use Rattle.pr_domain.specs.declared.landing.Class.TheVariants as class
 use Rattle.pr_registry.specs.Registrations.{State, key_of}
 use Rattle.pr_registry.specs.declared.held.Held.{Held}
 use Rattle.pr_unit.specs.UnitStates.{UnitState, is_pending}
 use Rattle.pr_roles.specs.declared.item.Item.{Item}
-use Rattle.pr_roles.specs.declared.item.Item.TheVariants.{Sent, Reset}
 use Rattle.pr_audit.specs.Ends.{ending_of}
 use Rattle.pr_output.specs.PrintedLines.{line, attention_word, class_word, generation_word, key_word}
 use Rattle.pr_report.specs.TraceText.{held_word, name_of, trace_body}
@@ -19,22 +15,13 @@ use Rattle.pr_report.specs.Verdicts.{no_arm_words, place_words}
 use Rattle.pr_witness.specs.declared.breach.Breach.{Breach}
 use Rattle.pr_witness.specs.declared.breach.Broken.{Broken as Told}
 use Rattle.pr_witness.specs.declared.breach.Broken.TheVariants.{NoArm, OutOfRole, OverBudget}
-use Rattle.pr_witness.specs.Classes.{class_of}
+use Rattle.pr_witness.specs.Classes.{last_class}
 
 -- What is broken.
 
 abbrev pub told_word : Bool → List ℕ
 told_word true = codes "told"
 told_word false = codes "other"
-
--- a reset ends GOOD
-abbrev pub item_class : Item → Class
-item_class (Sent e) = class_of e.reply
-item_class Reset = class.Good
-
--- how the last of them ended
-abbrev pub last_class : List Item → Class
-last_class history = option_map_or item_class (slice_get history (length history - 1)) class.Good
 
 abbrev pub out_of_role_words : List ℕ → ℕ → List (List ℕ)
 out_of_role_words name at = place_words (codes "OutOfRole") name at

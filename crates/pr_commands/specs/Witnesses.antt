@@ -5,6 +5,8 @@ use Rattle.std.specs.Fmt.{decimal}
 use Rattle.pr_roles.specs.Scenarios.{Scenario}
 use Rattle.pr_roles.specs.Safety.{IsSafe}
 use Rattle.pr_text.specs.Reading.{IsWrittenAs}
+use Rattle.pr_verify.specs.declared.refusal.Refusal.{Refusal}
+use Rattle.pr_verify.specs.Verdicts.{IsFirstReason}
 use Rattle.pr_output.specs.PrintedLines.{line}
 use Rattle.pr_report.specs.TraceText.{names_in}
 use Rattle.pr_witness.specs.declared.searching.Bound.{Bound}
@@ -23,14 +25,14 @@ bound_words (Some Worlds) = codes "worlds" ∷ []
 bound_words (Some Depth) = codes "depth" ∷ []
 bound_words (Some Memory) = codes "memory" ∷ []
 
--- the scenario is accepted, so that there is nothing to search for; or it was searched
+-- the scenario is accepted, so that there is nothing to search for; or it is refused, and was searched
 pub data Answer : Type 0 where
   accepted : Answer
-  searched : Finding → Answer
+  searched : Refusal → Finding → Answer
 
 abbrev pub Holds : Answer → Scenario → Type 0
 Holds accepted s = IsSafe s
-Holds (searched search) s = IsFound s search
+Holds (searched refusal search) s = IsFirstReason s refusal × IsFound s refusal search
 
 abbrev pub search_text : List (List ℕ) → Finding → List ℕ
 search_text names (Found breach is_told) = witness_text names breach is_told
@@ -38,7 +40,7 @@ search_text names (Nothing worlds bound) = line (codes "none") (decimal worlds �
 
 abbrev pub answer_text : List (List ℕ) → Answer → List ℕ
 answer_text names accepted = line (codes "accepted") []
-answer_text names (searched search) = search_text names search
+answer_text names (searched refusal search) = search_text names search
 
 abbrev pub is_found : Finding → Bool
 is_found (Found breach is_told) = true
@@ -47,7 +49,7 @@ is_found (Nothing worlds bound) = false
 -- a breach was found
 abbrev pub is_breach : Answer → Bool
 is_breach accepted = false
-is_breach (searched search) = is_found search
+is_breach (searched refusal search) = is_found search
 
 -- the text is a scenario, and these are the lines of an answer that holds of it
 pub record IsWitnessOf (text lines : List ℕ) (refused : Bool) : Type 0 where

@@ -19,7 +19,7 @@ use pr_output::{Token, WriteFault, put_line};
 use pr_report::{Verdict, write_verdict};
 use pr_roles::Scenario;
 use pr_text::read;
-use pr_verify::{Verified, verify};
+use pr_verify::{Refusal, Verified, verify};
 use pr_witness::{Bound, Finding, USUAL_BOUNDS, search};
 use std::alloc::Global;
 use std::io::{Read, Write};
@@ -28,7 +28,11 @@ use std::io::{Read, Write};
 #[derive(Drop)]
 enum Witnessed {
     Accepted(Verified),
-    Searched { scenario: Scenario, search: Finding },
+    Searched {
+        scenario: Scenario,
+        refusal: Refusal,
+        search: Finding,
+    },
 }
 
 /// `fence witness`: reads a scenario, and where it is refused writes a run that breaks what its verdict tells, or else any run
@@ -75,6 +79,7 @@ fn witness<R: Read>(alloc: Global, reader: &mut R) -> Result<Witnessed, Fault>
             let search = search(alloc, &refused.scenario, &refused.refusal, USUAL_BOUNDS)?;
             Ok(Witnessed::Searched {
                 scenario: refused.scenario,
+                refusal: refused.refusal,
                 search,
             })
         }
@@ -97,7 +102,11 @@ fn put_witnessed<W: Write>(writer: &mut W, witnessed: &Witnessed) -> Result<(), 
         Witnessed::Accepted(verified) => {
             write_verdict(writer, verified.scenario(), &Verdict::Accepted)
         }
-        Witnessed::Searched { scenario, search } => put_search(writer, scenario, search),
+        Witnessed::Searched {
+            scenario,
+            search,
+            ..
+        } => put_search(writer, scenario, search),
     }
 }
 

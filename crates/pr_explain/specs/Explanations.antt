@@ -25,4 +25,4 @@ is_refusal (Refused scenario refusal tables finding senders) = true
 abbrev pub Holds : Scenario → Explanation → Type 0
 Holds s (Accepted scenario costs lints) = IsSafe s × (costs.items ≡ map (λ n. cost_of n.task) s.nexuses)
 Holds s (Refused scenario refusal tables finding senders) =
-    IsFirstReason s refusal × AreTables s (map table_of tables.items) × IsFound s finding
+    IsFirstReason s refusal × AreTables s (map table_of tables.items) × IsFound s refusal finding

@@ -26,6 +26,6 @@ mod starting;
 pub use allowed::is_allowed_start;
 pub use breach::{Breach, Broken};
 pub use certifying::certify;
-pub use hit::class_of;
+pub use hit::{class_of, last_class};
 pub use laws::{breaches_are_legal, breaches_refute_safety};
 pub use searching::{Bound, Bounds, Finding, USUAL_BOUNDS, search};

@@ -12,11 +12,11 @@ use Rattle.pr_commands.specs.inside.EarlyFaults.{IsEarlyFault}
 
 abbrev pub scenario_in : Witnessed → Parts
 scenario_in (witnessed.Accepted verified) = verified
-scenario_in (witnessed.Searched scenario search) = scenario
+scenario_in (witnessed.Searched scenario refusal search) = scenario
 
 abbrev pub answer_in : Witnessed → Answer
 answer_in (witnessed.Accepted verified) = accepted
-answer_in (witnessed.Searched scenario search) = searched search
+answer_in (witnessed.Searched scenario refusal search) = searched refusal search
 
 abbrev pub witnessed_text : Witnessed → List ℕ
 witnessed_text w = answer_text (names_under (scenario_in w)) (answer_in w)
