@@ -9,7 +9,7 @@ use Rattle.std.specs.FinSet as set
 use Rattle.pr_cdb.specs.declared.codes.TheConstants.{MOST_NEXUSES}
 use Rattle.pr_attention.specs.Attentions.{Codes, no_code}
 pub use Rattle.pr_attention.specs.Attentions.{power_on, reservations_preempted, reservations_released, registrations_preempted, attentions, is_attention, attention_sense}
-use Rattle.pr_registry.specs.Hosts.{Hosts}
+use Rattle.pr_registry.specs.Hosts.{Hosts, nobody}
 
 -- by the host, then by the code
 abbrev pub pair_cmp : ℕ × ℕ → ℕ × ℕ → Ordering
@@ -17,6 +17,11 @@ pair_cmp p q = slice_cmp nat_cmp (p.0 ∷ p.1 ∷ []) (q.0 ∷ q.1 ∷ [])
 
 abbrev pub Pairs : Type 0
 Pairs = set.FinSet pair_cmp
+
+-- the hosts below n
+unfoldable pub hosts_below : ℕ → Hosts
+hosts_below zero = nobody
+hosts_below (suc n) = set.insert (hosts_below n) n
 
 -- each of these hosts, with this code
 unfoldable pub each_with : Hosts → ℕ → Pairs

@@ -6,10 +6,11 @@ use Rattle.std.specs.FinSet as set
 use Rattle.std.specs.List.{list_any}
 use Rattle.pr_cdb.specs.declared.command.Command.{Command}
 use Rattle.pr_registry.specs.declared.change.Change.{Change}
+use Rattle.pr_registry.specs.Hosts.{Hosts}
 use Rattle.pr_registry.specs.Registrations.{State, IsWellFormed as IsWellFormedRegistry}
 use Rattle.pr_registry.specs.Effects.{after, change}
-use Rattle.pr_attention.specs.Attentions.{Codes, no_code}
-use Rattle.pr_unit.specs.Attentions.{Pairs, table_pairs, pairs_where, attentions, is_attention, each_with, power_on, reservations_preempted, reservations_released, registrations_preempted}
+use Rattle.pr_attention.specs.Attentions.{Codes}
+use Rattle.pr_unit.specs.Attentions.{Pairs, table_pairs, attentions, is_attention, hosts_below, each_with, power_on, reservations_preempted, reservations_released, registrations_preempted}
 
 pub record UnitState : Type 0 where
   pub registry : State
@@ -51,6 +52,10 @@ effect u h c = record { registry = after u.registry h c; pending = pending_after
 abbrev pub after_report : UnitState → ℕ → ℕ → UnitState
 after_report u h code = record u { pending = set.remove u.pending (h, code) }
 
+-- the hosts that are there
+abbrev pub hosts_of : State → Hosts
+hosts_of u = hosts_below u.hosts
+
 -- the state after a reset: power on is pending for each host, and nothing else is another (SAM-5, 'Logical unit reset')
 abbrev pub reset : UnitState → UnitState
-reset u = record u { pending = set.union u.pending (pairs_where u.registry.hosts (λ h. set.insert no_code power_on)) }
+reset u = record u { pending = set.union u.pending (each_with (hosts_of u.registry) power_on) }

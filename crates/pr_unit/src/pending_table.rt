@@ -2,8 +2,8 @@
 
 ghost use Rattle.std.specs.Prelude.{◌≡◌, ◌<◌, ◌≤◌, ℕ, true, IsNone, IfSome, ◌↔◌};
 ghost use Rattle.std.specs.FinSet as set;
-ghost use Rattle.pr_attention.specs.Attentions.{code_of, no_code};
-ghost use Rattle.pr_unit.specs.Attentions.{each_with, pairs_where, table_pairs};
+ghost use Rattle.pr_attention.specs.Attentions.{code_of};
+ghost use Rattle.pr_unit.specs.Attentions.{each_with, hosts_below, table_pairs};
 ghost use Rattle.pr_unit.specs.UnitStates.{has_any, pending_after};
 ghost use Rattle.pr_unit.specs.inside.Told.{AreBelow, TellsBelow, IsLowestOf, HasNone};
 
@@ -79,7 +79,7 @@ pub(crate) fn tell(pendings: &mut [Pending; MOST_NEXUSES], hosts: &HostSet, atte
 pub(crate) fn tell_all(pendings: &mut [Pending; MOST_NEXUSES], hosts: u8, attention: Attention)
     requires { hosts ≤ MOST_NEXUSES }
     ensures { table_pairs pendings.new ≡ set.union (table_pairs pendings.old)
-        (pairs_where hosts (λ h. set.insert no_code (code_of attention))) }
+        (each_with (hosts_below hosts) (code_of attention)) }
 {
     for host in 0..hosts {
         add(pendings, host, attention);

@@ -119,7 +119,7 @@ joined_pair true false a b same = same refl
 joined_pair false true a b same = or_false b
 joined_pair false false a b same = refl
 
-not-lt-zero : (q : ℕ) → nat_lt q 0 ≡ false
+pub not-lt-zero : (q : ℕ) → nat_lt q 0 ≡ false
 not-lt-zero q = grind (arith, nat_tests)
 
 pub same_number : (a b : ℕ) → (a == b) ≡ true → a ≡ b

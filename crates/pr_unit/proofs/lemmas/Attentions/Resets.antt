@@ -1,59 +1,33 @@
 -- What a reset makes pending.
-use Rattle.pr_unit.proofs.Common.{◌≡◌, ℕ, ◌+◌, ◌<◌, Bool, true, false, ◌&&◌, ◌||◌, IsTrue, nat_lt, ◌==◌, sym, refl, ap, ◌∙◌, arith, false≢true, nat_tests, no_code, contains-no_code, power_on, Pairs, each_with, pairs_where, zero, suc}
+use Rattle.pr_unit.proofs.Common.{◌≡◌, ℕ, zero, suc, ◌+◌, ◌<◌, Bool, true, false, ◌&&◌, ◌||◌, IsTrue, nat_lt, ◌==◌, sym, refl, ap, ◌∙◌, arith, false≢true, nat_tests, power_on, Pairs, each_with, hosts_below}
 use Rattle.std.proofs.Common.{add-one}
 use Rattle.std.specs.FinSet as set
 use Rattle.std.proofs.Math.Bool.{or-false}
 use Rattle.pr_sets.proofs.lemmas.Members.{lt-suc}
 use Rattle.pr_attention.specs.Attentions.{is_attention}
-use Rattle.pr_attention.proofs.lemmas.Sets.{contains-insert_code}
-use Rattle.pr_unit.specs.Laws.{ResetsTellEach, ResetsAreWellFormed}
-use Rattle.pr_registry.specs.Hosts.{Hosts, nobody}
 use Rattle.pr_registry.proofs.lemmas.Sets.{contains-nobody, contains-insert}
-use Rattle.pr_unit.proofs.lemmas.Attentions.Pairs.{same_pairs, contains-insert-pair, contains-union-pairs, contains-each_with, contains-pairs_where}
-
--- this code for each host below n
-abbrev every_host : ℕ → ℕ → Pairs
-every_host n code = pairs_where n (λ h. set.insert no_code code)
-
-contains-every_host : (n code q x : ℕ) → set.contains (every_host n code) (q, x) ≡ (nat_lt q n && x == code)
-contains-every_host n code q x =
-    contains-pairs_where n (λ h. set.insert no_code code) q x
-    ∙ ap (λ b. nat_lt q n && b) (contains-insert_code no_code code x ∙ ap (λ b. x == code || b) (contains-no_code x) ∙ or-false (x == code))
-
-contains-told : (old : Pairs) (n code q x : ℕ) → set.contains (set.union old (every_host n code)) (q, x) ≡ (set.contains old (q, x) || (nat_lt q n && x == code))
-contains-told old n code q x =
-    contains-union-pairs old (every_host n code) (q, x) ∙ ap (λ b. set.contains old (q, x) || b) (contains-every_host n code q x)
-
--- the hosts below n
-abbrev hosts_below : ℕ → Hosts
-hosts_below zero = nobody
-hosts_below (suc n) = set.insert (hosts_below n) n
+use Rattle.pr_unit.specs.Laws.{ResetsTellEach, ResetsAreWellFormed}
+use Rattle.pr_unit.proofs.lemmas.Attentions.Pairs.{same_pairs, contains-insert-pair, contains-union-pairs, contains-each_with, not-lt-zero}
 
 contains-hosts_below : (n q : ℕ) → set.contains (hosts_below n) q ≡ nat_lt q n
-contains-hosts_below zero q = contains-nobody q ∙ sym (not_below q)
-  where
-    not_below : (q : ℕ) → nat_lt q 0 ≡ false
-    not_below q = grind (arith, nat_tests)
+unfolding hosts_below
+contains-hosts_below zero q = contains-nobody q ∙ sym (not-lt-zero q)
 contains-hosts_below (suc n) q = contains-insert (hosts_below n) n q ∙ ap (λ b. q == n || b) (contains-hosts_below n q) ∙ sym (lt-suc q n)
 
--- what a reset makes pending, said by the hosts
-pub same_resets : (n code : ℕ) → each_with (hosts_below n) code ≡ every_host n code
-same_resets n code =
-    same_pairs _ _ (λ p. contains-each_with (hosts_below n) code p.0 p.1 ∙ ap (λ b. b && p.1 == code) (contains-hosts_below n p.0)
-    ∙ sym (contains-every_host n code p.0 p.1))
+contains-told : (old : Pairs) (n code q x : ℕ) → set.contains (set.union old (each_with (hosts_below n) code)) (q, x) ≡ (set.contains old (q, x) || (nat_lt q n && x == code))
+contains-told old n code q x =
+    contains-union-pairs old (each_with (hosts_below n) code) (q, x)
+    ∙ ap (λ b. set.contains old (q, x) || b) (contains-each_with (hosts_below n) code q x ∙ ap (λ b. b && x == code) (contains-hosts_below n q))
 
 -- no host yet
-pub told_nobody : (old : Pairs) (code : ℕ) → old ≡ set.union old (every_host 0 code)
+pub told_nobody : (old : Pairs) (code : ℕ) → old ≡ set.union old (each_with (hosts_below 0) code)
 told_nobody old code =
-    same_pairs _ _ (λ p. sym (contains-told old 0 code p.0 p.1 ∙ ap (λ b. set.contains old p || (b && p.1 == code)) (not_below p.0) ∙ or-false (set.contains old p)))
-  where
-    not_below : (q : ℕ) → nat_lt q 0 ≡ false
-    not_below q = grind (arith, nat_tests)
+    same_pairs _ _ (λ p. sym (contains-told old 0 code p.0 p.1 ∙ ap (λ b. set.contains old p || (b && p.1 == code)) (not-lt-zero p.0) ∙ or-false (set.contains old p)))
 
 -- one host more
-pub told_one : (old : Pairs) (code n : ℕ) → set.insert (set.union old (every_host n code)) (n, code) ≡ set.union old (every_host (n + 1) code)
+pub told_one : (old : Pairs) (code n : ℕ) → set.insert (set.union old (each_with (hosts_below n) code)) (n, code) ≡ set.union old (each_with (hosts_below (n + 1)) code)
 told_one old code n =
-    same_pairs _ _ (λ p. contains-insert-pair (set.union old (every_host n code)) (n, code) p
+    same_pairs _ _ (λ p. contains-insert-pair (set.union old (each_with (hosts_below n) code)) (n, code) p
     ∙ ap (λ b. (p.0 == n && p.1 == code) || b) (contains-told old n code p.0 p.1)
     ∙ at (p.0 == n) (p.1 == code) (set.contains old p) (nat_lt p.0 n)
     ∙ ap (λ b. set.contains old p || (b && p.1 == code)) (sym (rw add-one (lt-suc p.0 n)))
