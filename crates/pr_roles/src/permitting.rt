@@ -2,7 +2,8 @@
 
 ghost use Rattle.std.specs.Prelude.{◌≡◌, ◌<◌};
 ghost use Rattle.std.specs.List.{list_any};
-ghost use Rattle.pr_roles.specs.Permits.{registers, reserves, is_preempting, preempts, names, holds, clause_permits, is_always_permitted, command_permitted};
+ghost use Rattle.pr_roles.specs.declared.role.Action.TheVariants as action;
+ghost use Rattle.pr_roles.specs.Permits.{names, holds, clause_permits, is_always_permitted, command_permitted};
 
 use crate::role::{Action, Clause, Condition, Role};
 use pr_cdb::{Command, Kind};
@@ -78,7 +79,7 @@ pub fn names(action: Action, command: Command) -> bool
 }
 
 fn registers(key: u64, command: Command) -> bool
-    ensures { result ≡ registers key command }
+    ensures { result ≡ names (action.Register key) command }
 {
     match command {
         Command::Register { sark, .. } | Command::RegisterIgnore { sark } => sark == key,
@@ -87,7 +88,7 @@ fn registers(key: u64, command: Command) -> bool
 }
 
 fn reserves(kind: Kind, command: Command) -> bool
-    ensures { result ≡ reserves kind command }
+    ensures { result ≡ names (action.Reserve kind) command }
 {
     match command {
         Command::Reserve { kind: asked, .. } => asked == kind,
@@ -96,28 +97,19 @@ fn reserves(kind: Kind, command: Command) -> bool
 }
 
 fn preempts(key: u64, kind: Kind, command: Command) -> bool
-    ensures { result ≡ preempts key kind command }
+    ensures { result ≡ names (action.Preempt key kind) command }
 {
     match command {
         Command::Preempt {
             sark,
-            kind: asked,
+            kind: Some(asked),
             ..
         }
         | Command::PreemptAbort {
             sark,
-            kind: asked,
+            kind: Some(asked),
             ..
-        } => is_preempting(sark, asked, key, kind),
+        } => sark == key && asked == kind,
         _ => false,
-    }
-}
-
-fn is_preempting(sark: u64, asked: Option<Kind>, key: u64, kind: Kind) -> bool
-    ensures { result ≡ is_preempting sark asked key kind }
-{
-    match asked {
-        Some(asked) => sark == key && asked == kind,
-        None => false,
     }
 }

@@ -1,5 +1,5 @@
 -- What a command that a clause names asks for, and a command of each clause.
-use Rattle.pr_interference.proofs.Common.{◌≡◌, ℕ, Bool, true, false, ◌&&◌, ◌⊎◌, List, if◌then◌else◌, ◌==◌, Some, None, Option, option_map, sym, refl, ap, ◌∙◌, subst, inl, inr, arith, false≢true, and_parts, nat_tests, Command, Kind, Plain, is_kind, is_told_of_loss, kind_of, IsKey, Held, request_looks, UnitState, effect, is_declared, is_action, AreDeclared, names, Action, number_in, purpose_of_preempt, purpose_of, Purpose, Register, Unregister, Reserve, Release, Clear, is_pending_after, contains-told, IsLike, purpose_for}
+use Rattle.pr_interference.proofs.Common.{◌≡◌, ℕ, Bool, true, false, ◌&&◌, ◌⊎◌, List, if◌then◌else◌, ◌==◌, Some, None, Option, sym, refl, ap, ◌∙◌, subst, inl, inr, arith, false≢true, and_parts, nat_tests, Command, Kind, Plain, is_kind, is_told_of_loss, kind_of, IsKey, Held, request_looks, UnitState, effect, is_declared, is_action, AreDeclared, names, Action, number_in, purpose_of_preempt, purpose_of, Purpose, Register, Unregister, Reserve, Release, Clear, is_pending_after, contains-told, IsLike, purpose_for}
 use Rattle.std.specs.FinSet as set
 use Rattle.pr_cdb.specs.declared.command.Kind.TheVariants.{WriteExclusive}
 use Rattle.pr_cdb.specs.declared.command.Command.TheVariants as command
@@ -9,7 +9,6 @@ use Rattle.pr_registry.specs.Registrations.{others, is_holder}
 use Rattle.pr_registry.specs.Changes.{no_change, is_held_as, is_released}
 use Rattle.pr_registry.proofs.lemmas.Sets.{contains-nobody}
 use Rattle.pr_roles.specs.declared.role.Action.TheVariants as action
-use Rattle.pr_roles.specs.Permits.{is_preempting}
 use Rattle.pr_regions.specs.Purposes.{purpose_of_register}
 use Rattle.pr_interference.proofs.lemmas.Interference.Conduct.{any_found}
 
@@ -85,6 +84,9 @@ releases keys u h rk kind (Some v) is = at (is_kind (kind_of v) kind) refl
     at true same = inl (record { purpose = Release (kind_of v); meant = refl; asked = ap (λ k. Some (Release k)) (sym (same_kind (kind_of v) kind same)) })
     at false other = inr (unreleased u h rk kind (ap (λ w. is_holder u.registry h && is_held_as w kind) is ∙ ap (λ b. is_holder u.registry h && b) other ∙ and_false (is_holder u.registry h)))
 
+alone : (b : Bool) → (b && true) ≡ true → b ≡ true
+alone b is = (and_parts b true is).0
+
 pub registers_key : (keys : List ℕ) (sark key : ℕ) → AreDeclared keys → is_declared keys key ≡ true → (sark == key) ≡ true → Some (purpose_of_register keys sark) ≡ Some (Register (number_in keys key))
 registers_key keys sark key declared is same =
     ap (λ k. Some (purpose_of_register keys k)) (same_number sark key same)
@@ -93,11 +95,10 @@ registers_key keys sark key declared is same =
 unregisters : (keys : List ℕ) (sark : ℕ) → (sark == 0) ≡ true → Some (purpose_of_register keys sark) ≡ Some Unregister
 unregisters keys sark same = ap (λ b. Some (if b then Unregister else Register (number_in keys sark))) same
 
-preempts_key : (keys : List ℕ) (sark key : ℕ) (kind : Option Kind) (t : Kind) → is_preempting sark kind key t ≡ true → option_map (λ k. purpose_of_preempt keys sark k) kind ≡ Some (purpose_of_preempt keys key t)
-preempts_key keys sark key None t is = absurd (false≢true is)
-preempts_key keys sark key (Some k) t is =
-    let parts = and_parts (sark == key) (is_kind k t) is in
-    (λ i. Some (purpose_of_preempt keys (same_number sark key parts.0 i) (same_kind k t parts.1 i)))
+preempts_key : (keys : List ℕ) (sark key : ℕ) (k t : Kind) → (sark == key && (is_kind k t && true)) ≡ true → Some (purpose_of_preempt keys sark k) ≡ Some (purpose_of_preempt keys key t)
+preempts_key keys sark key k t is =
+    let parts = and_parts (sark == key) (is_kind k t && true) is in
+    (λ i. Some (purpose_of_preempt keys (same_number sark key parts.0 i) (same_kind k t (alone (is_kind k t) parts.1) i)))
 
 is_meant : (keys : List ℕ) (a : Action) (c : Command) (u : UnitState) (p : Purpose) → purpose_for keys a u.registry.held ≡ Some p → purpose_of keys c ≡ Some p → IsMeant keys a u.registry.held c
 is_meant keys a c u p meant asked = record { purpose = p; meant = meant; asked = asked }
@@ -115,13 +116,15 @@ meant keys a (command.Write lba blocks) u h declared fits acts named = absurd (f
 meant keys a (command.ReadKeys alloc) u h declared fits acts named = absurd (false≢true (sym acts))
 meant keys a (command.ReadReservation alloc) u h declared fits acts named = absurd (false≢true (sym acts))
 meant keys a (command.ReportCapabilities alloc) u h declared fits acts named = absurd (false≢true (sym acts))
-meant keys (action.Register key) (command.Register rk sark) u h declared fits acts named = inl (is_meant keys (action.Register key) (command.Register rk sark) u (Register (number_in keys key)) refl (registers_key keys sark key declared fits named))
-meant keys action.Unregister (command.Register rk sark) u h declared fits acts named = inl (is_meant keys action.Unregister (command.Register rk sark) u Unregister refl (unregisters keys sark named))
-meant keys (action.Register key) (command.RegisterIgnore sark) u h declared fits acts named = inl (is_meant keys (action.Register key) (command.RegisterIgnore sark) u (Register (number_in keys key)) refl (registers_key keys sark key declared fits named))
-meant keys action.Unregister (command.RegisterIgnore sark) u h declared fits acts named = inl (is_meant keys action.Unregister (command.RegisterIgnore sark) u Unregister refl (unregisters keys sark named))
-meant keys (action.Reserve t) (command.Reserve rk kind) u h declared fits acts named = inl (is_meant keys (action.Reserve t) (command.Reserve rk kind) u (Reserve t) refl (ap (λ k. Some (Reserve k)) (same_kind kind t named)))
+meant keys a (command.Preempt rk sark None) u h declared fits acts named = absurd (false≢true named)
+meant keys a (command.PreemptAbort rk sark None) u h declared fits acts named = absurd (false≢true named)
+meant keys (action.Register key) (command.Register rk sark) u h declared fits acts named = inl (is_meant keys (action.Register key) (command.Register rk sark) u (Register (number_in keys key)) refl (registers_key keys sark key declared fits (alone _ named)))
+meant keys action.Unregister (command.Register rk sark) u h declared fits acts named = inl (is_meant keys action.Unregister (command.Register rk sark) u Unregister refl (unregisters keys sark (alone _ named)))
+meant keys (action.Register key) (command.RegisterIgnore sark) u h declared fits acts named = inl (is_meant keys (action.Register key) (command.RegisterIgnore sark) u (Register (number_in keys key)) refl (registers_key keys sark key declared fits (alone _ named)))
+meant keys action.Unregister (command.RegisterIgnore sark) u h declared fits acts named = inl (is_meant keys action.Unregister (command.RegisterIgnore sark) u Unregister refl (unregisters keys sark (alone _ named)))
+meant keys (action.Reserve t) (command.Reserve rk kind) u h declared fits acts named = inl (is_meant keys (action.Reserve t) (command.Reserve rk kind) u (Reserve t) refl (ap (λ k. Some (Reserve k)) (same_kind kind t (alone _ named))))
 meant keys action.Release (command.Release rk kind) u h declared fits acts named = released_as keys u h rk kind
 meant keys action.Clear (command.Clear rk) u h declared fits acts named = inl (is_meant keys action.Clear (command.Clear rk) u Clear refl refl)
-meant keys (action.Preempt key t) (command.Preempt rk sark kind) u h declared fits acts named = inl (is_meant keys (action.Preempt key t) (command.Preempt rk sark kind) u (purpose_of_preempt keys key t) refl (preempts_key keys sark key kind t named))
-meant keys (action.Preempt key t) (command.PreemptAbort rk sark kind) u h declared fits acts named = inl (is_meant keys (action.Preempt key t) (command.PreemptAbort rk sark kind) u (purpose_of_preempt keys key t) refl (preempts_key keys sark key kind t named))
+meant keys (action.Preempt key t) (command.Preempt rk sark (Some kind)) u h declared fits acts named = inl (is_meant keys (action.Preempt key t) (command.Preempt rk sark (Some kind)) u (purpose_of_preempt keys key t) refl (preempts_key keys sark key kind t named))
+meant keys (action.Preempt key t) (command.PreemptAbort rk sark (Some kind)) u h declared fits acts named = inl (is_meant keys (action.Preempt key t) (command.PreemptAbort rk sark (Some kind)) u (purpose_of_preempt keys key t) refl (preempts_key keys sark key kind t named))
 meant keys _ _ u h declared fits acts named = absurd (false≢true named)

@@ -83,7 +83,7 @@ spells_register keys key own p declared fits meant = record {
   command = command.RegisterIgnore key;
   fits = (declared_key keys key declared fits).1;
   acts = refl;
-  named = itself key;
+  named = and_from (key == key) true (itself key) refl;
   asked = registers_key keys key key declared fits (itself key) ∙ meant;
   accepted = refl;
 }
@@ -103,7 +103,7 @@ pub spells : (keys : List ℕ) (a : Action) (held : Option Held) (rk : ℕ) (p :
 spells keys (action.Register key) held rk p declared fits own meant = spells_register keys key (Some rk) p declared fits meant
 spells keys action.Unregister held rk p declared fits own meant = spells_unregister keys (Some rk) p meant
 spells keys (action.Reserve kind) held rk p declared fits own meant =
-    record { command = command.Reserve rk kind; fits = own.1; acts = refl; named = itself (code_of kind); asked = meant; accepted = ap not (itself rk) }
+    record { command = command.Reserve rk kind; fits = own.1; acts = refl; named = and_from (is_kind kind kind) true (itself (code_of kind)) refl; asked = meant; accepted = ap not (itself rk) }
 spells keys action.Release None rk p declared fits own meant = let bad : None ≡ Some p = meant in cc
 spells keys action.Release (Some v) rk p declared fits own meant =
     record { command = command.Release rk (kind_of v); fits = own.1; acts = refl; named = refl; asked = meant; accepted = ap not (itself rk) }
@@ -113,7 +113,7 @@ spells keys (action.Preempt key kind) held rk p declared fits own meant = record
   command = command.Preempt rk key (Some kind);
   fits = (own.1, written_few keys key declared fits);
   acts = refl;
-  named = and_from (key == key) (is_kind kind kind) (itself key) (itself (code_of kind));
+  named = and_from (key == key) (is_kind kind kind && true) (itself key) (and_from (is_kind kind kind) true (itself (code_of kind)) refl);
   asked = meant;
   accepted = ap not (itself rk);
 }
