@@ -10,13 +10,14 @@ ghost use Rattle.pr_regions.specs.Purposes.{HasNumber};
 ghost use Rattle.pr_interference.specs.inside.Interfering.{IsOnlooking, IsWatched, ClauseLeaves};
 ghost use Rattle.pr_regions.specs.inside.Adding.{Adds};
 ghost use Rattle.pr_interference.specs.Interference.{IsInterference};
-ghost use Rattle.pr_interference.specs.inside.Reaching.{HasShown, MayHave};
+ghost use Rattle.pr_interference.specs.inside.Reaching.{AreHolders, HasShown, MayHave};
 ghost use Rattle.pr_interference.specs.inside.Closing.{Interferes, Widens};
 ghost use Rattle.pr_interference.specs.inside.Clauses.{purpose_for, IsClause, StandingLeads, AddsRole, AddsClause, AddsPlace};
 
 use crate::clauses::{may_send, senders};
+use crate::holders::Holders;
 use crate::onlooker::Onlooker;
-use pr_regions::{Place, Purpose, Standing, branches, count_of_reservations, gains, kept};
+use pr_regions::{Place, Purpose, Standing, branches, count_of_reservations, kept};
 use pr_roles::{Clause, Role};
 use pr_sets::{BitSet, ViewSet};
 use pr_views::{Possibilities, ViewOf};
@@ -47,27 +48,29 @@ impl Onlooker<'_> {
             → HasShown s self.now.view answer.old }
         ensures { AddsRole self.now answer.old answer.new }
     {
+        let holders = Holders::of(self.hosts, self.view.reservations);
         for clause in self.clauses {
-            self.add_clause(answer, clause);
+            self.add_clause(answer, &holders, clause);
         }
     }
 
     // Adds what is possible after a command of this clause, until the answer has the most that it can leave.
-    fn add_clause(&self, answer: &mut Possibilities, clause: &Clause)
+    fn add_clause(&self, answer: &mut Possibilities, holders: &Holders, clause: &Clause)
+        requires held { AreHolders self.now.hosts self.now.view.reservations holders.now }
         requires shown { (s : Scope) → IsOnlooking s self.now
             → HasShown s self.now.view answer.old }
         requires action { IsClause self.now.keys.now clause.now }
         ensures { AddsClause self.now clause.now answer.old answer.new }
     {
-        if !gains(self.hosts, answer, &self.most(&self.widest(clause))) {
+        let reach = self.reach(holders, clause);
+        if !self.may_gain(answer, &reach) {
             return;
         }
-        let most = self.most(&self.reach(clause));
         for reservation in 0..count_of_reservations(self.hosts) {
-            if !gains(self.hosts, answer, &most) {
-                return;
-            }
             if self.view.reservations.has(reservation) {
+                if !self.may_gain(answer, &reach) {
+                    return;
+                }
                 let place = Place::of(self.hosts, self.other, reservation);
                 self.add_place(answer, &place, clause);
             }

@@ -3,13 +3,13 @@
 
 mod clauses;
 mod closing;
+mod holders;
 mod interference;
 mod marking;
 mod onlooker;
 mod reach;
 mod reaching;
 mod resetting;
-mod widest;
 
 pub use closing::close;
 pub use interference::interfere;

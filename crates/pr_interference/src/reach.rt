@@ -1,17 +1,16 @@
 //! What a command gives, removes and tells at most.
 
-ghost use Rattle.std.specs.Prelude.{◌≡◌, ◌≤◌, ◌&&◌, Some, None, true};
-ghost use Rattle.pr_registry.specs.Registrations.{holds_alone, is_for_registrants as is_for_registrants_as};
-ghost use Rattle.pr_registry.specs.Changes.{is_held_by_all, is_told_of_loss};
+ghost use Rattle.std.specs.Prelude.{◌≡◌, ◌<◌, ◌≤◌, ℕ, true, false, IsTrue};
+ghost use Rattle.pr_cdb.specs.declared.codes.TheConstants.{MOST_NEXUSES};
 ghost use Rattle.pr_roles.specs.declared.limits.TheConstants.{MOST_KEYS};
 ghost use Rattle.pr_sets.specs.BitSets.{has};
 ghost use Rattle.pr_sets.specs.Wides.{has_wide};
-ghost use Rattle.pr_interference.specs.inside.Reaching.{IsWider, HasEveryKey, HasNew, is_held_with};
+ghost use Rattle.pr_views.specs.Portions.{has_at};
+ghost use Rattle.pr_interference.specs.inside.Reaching.{HasEveryKey, HasEveryKeyBut};
 
-use pr_cdb::Kind;
-use pr_regions::{Place, every_key, reservation_number};
-use pr_registry::{Held, is_all};
+use pr_regions::every_key;
 use pr_sets::{BitSet, Wide};
+use pr_views::Possibilities;
 
 /// What a command gives, removes and tells at most.
 #[derive(Clone, Copy)]
@@ -43,163 +42,63 @@ impl Reach {
             told_05: none,
         }
     }
-
-    /// What either of them reaches.
-    pub(crate) fn or(&self, other: &Reach) -> Reach
-        ensures first { IsWider self.now result }
-        ensures second { IsWider other.now result }
-    {
-        Reach {
-            given: self.given.or(other.given),
-            removed: self.removed.or(other.removed),
-            reservations: self.reservations.or(other.reservations),
-            told_03: self.told_03.or(other.told_03),
-            told_04: self.told_04.or(other.told_04),
-            told_05: self.told_05.or(other.told_05),
-        }
-    }
-
-    /// To be registered with the key of this number.
-    pub(crate) fn of_registering(key: u8) -> Reach
-        requires { key ≤ MOST_KEYS }
-        ensures { has result.given key ≡ true }
-    {
-        Reach {
-            given: BitSet::only(key),
-            ..Reach::none()
-        }
-    }
-
-    /// To be registered no more.
-    pub(crate) fn of_unregistering(place: &Place) -> Reach
-        ensures given { has result.given 0 ≡ true }
-        ensures ended { is_held_with place.now ≡ true → has_wide result.reservations 0 ≡ true }
-        ensures told { (holds_alone place.now.held place.now.sender
-            && is_told_of_loss place.now.held) ≡ true → HasEveryKey result.told_04 }
-    {
-        let going = Reach {
-            given: none_alone(),
-            ..Reach::none()
-        };
-        match place.held {
-            Some(Held::One(kind, holder)) if holder == place.sender => Reach {
-                reservations: no_reservation(),
-                told_04: those_told(kind),
-                ..going
-            },
-            Some(Held::All(_)) => Reach {
-                reservations: no_reservation(),
-                ..going
-            },
-            _ => going,
-        }
-    }
-
-    /// To establish a reservation of this type.
-    pub(crate) fn of_reserving(place: &Place, kind: Kind) -> Reach
-        ensures { place.now.held ≡ None → HasNew result.reservations place.now.hosts kind
-            place.now.sender }
-    {
-        match place.held {
-            None => Reach {
-                reservations: new_reservation_at(place, kind),
-                ..Reach::none()
-            },
-            Some(_) => Reach::none(),
-        }
-    }
-
-    /// To release the reservation that stands.
-    pub(crate) fn of_releasing(place: &Place) -> Reach
-        ensures ended { is_held_with place.now ≡ true → has_wide result.reservations 0 ≡ true }
-        ensures told { (is_held_with place.now && is_told_of_loss place.now.held) ≡ true
-            → HasEveryKey result.told_04 }
-    {
-        match place.held {
-            Some(Held::One(kind, holder)) if holder == place.sender => Reach {
-                reservations: no_reservation(),
-                told_04: those_told(kind),
-                ..Reach::none()
-            },
-            Some(Held::All(kind)) => Reach {
-                reservations: no_reservation(),
-                told_04: those_told(kind),
-                ..Reach::none()
-            },
-            _ => Reach::none(),
-        }
-    }
-
-    /// To remove the reservation and every registration.
-    pub(crate) fn of_clearing() -> Reach
-        ensures given { has result.given 0 ≡ true }
-        ensures removed { HasEveryKey result.removed }
-        ensures reservations { has_wide result.reservations 0 ≡ true }
-        ensures told { HasEveryKey result.told_03 }
-    {
-        Reach {
-            given: none_alone(),
-            removed: every_key(),
-            reservations: no_reservation(),
-            told_03: every_key(),
-            ..Reach::none()
-        }
-    }
-
-    /// To preempt all others, where all registrants hold.
-    pub(crate) fn of_preempting_all(place: &Place, kind: Kind) -> Reach
-        ensures removed { is_held_by_all place.now.held ≡ true → HasEveryKey result.removed }
-        ensures reservations { is_held_by_all place.now.held ≡ true
-            → HasNew result.reservations place.now.hosts kind place.now.sender }
-        ensures told { is_held_by_all place.now.held ≡ true → HasEveryKey result.told_05 }
-    {
-        match place.held {
-            Some(Held::All(_)) => Reach {
-                removed: every_key(),
-                reservations: new_reservation_at(place, kind),
-                told_05: every_key(),
-                ..Reach::none()
-            },
-            _ => Reach::none(),
-        }
-    }
 }
 
-/// The reservation of this type that the sender of the place establishes.
-pub(crate) fn new_reservation_at(place: &Place, kind: Kind) -> Wide
-    ensures { HasNew result place.now.hosts kind place.now.sender }
+/// No registration, if this is so.
+pub(crate) fn free_if(is: bool) -> BitSet
+    ensures { IsTrue is → has result 0 ≡ true }
 {
-    let held = if is_all(kind) {
-        Held::All(kind)
-    } else {
-        Held::One(kind, place.sender)
-    };
-    Wide::only(reservation_number(place.hosts, Some(held)))
+    if is { BitSet::only(0) } else { BitSet::none() }
 }
 
-/// The number of no registration.
-pub(crate) fn none_alone() -> BitSet
-    ensures { has result 0 ≡ true }
+/// No reservation, if this is so.
+pub(crate) fn unreserved_if(is: bool) -> Wide
+    ensures { IsTrue is → has_wide result 0 ≡ true }
 {
-    BitSet::only(0)
+    if is { Wide::only(0) } else { Wide::none() }
 }
 
-/// The number of no reservation.
-pub(crate) fn no_reservation() -> Wide
-    ensures { has_wide result 0 ≡ true }
+/// The registrations by a key, if this is so.
+pub(crate) fn keys_if(is: bool) -> BitSet
+    ensures { IsTrue is → HasEveryKey result }
 {
-    Wide::only(0)
+    if is { every_key() } else { BitSet::none() }
 }
 
-// With which registrations others are told of the loss of a reservation of this type.
-fn those_told(kind: Kind) -> BitSet
-    ensures { is_for_registrants_as kind ≡ true → HasEveryKey result }
+/// The same without the key of this number.
+pub(crate) fn keys_but_if(is: bool, key: u8) -> BitSet
+    requires { key ≤ MOST_KEYS }
+    ensures { IsTrue is → HasEveryKeyBut key result }
 {
-    match kind {
-        Kind::WriteExclusive | Kind::ExclusiveAccess => BitSet::none(),
-        Kind::WriteExclusiveRegistrantsOnly
-        | Kind::ExclusiveAccessRegistrantsOnly
-        | Kind::WriteExclusiveAllRegistrants
-        | Kind::ExclusiveAccessAllRegistrants => every_key(),
-    }
+    keys_if(is).without(key)
+}
+
+/// Whether a number is in both sets.
+pub(crate) fn meet(one: BitSet, other: BitSet) -> bool
+    ensures { (n : ℕ) → has one n ≡ true → has other n ≡ true → IsTrue result }
+{
+    !one.and(other).is_empty()
+}
+
+/// Whether the answer is without one of these.
+pub(crate) fn lacks(answer: BitSet, these: BitSet) -> bool
+    ensures { result ≡ false → (n : ℕ) → has these n ≡ true → has answer n ≡ true }
+{
+    !these.except(answer).is_empty()
+}
+
+/// Whether the answer is without one of these registrations of a nexus.
+pub(crate) fn lacks_at(answer: &Possibilities, host: u8, these: BitSet) -> bool
+    requires { host < MOST_NEXUSES }
+    ensures { result ≡ false → (n : ℕ) → has these n ≡ true
+        → has_at answer.now.registrations host n ≡ true }
+{
+    lacks(answer.registrations[usize::from(host)], these)
+}
+
+/// Whether the answer is without one of these reservations.
+pub(crate) fn lacks_wide(answer: Wide, these: Wide) -> bool
+    ensures { result ≡ false → (n : ℕ) → has_wide these n ≡ true → has_wide answer n ≡ true }
+{
+    !these.except(answer).is_empty()
 }

@@ -1,3 +1,3 @@
 pub mod Bounds
 pub mod Effects
-pub mod WidestBounds
+pub mod HeldReservations

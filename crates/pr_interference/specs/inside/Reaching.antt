@@ -1,13 +1,11 @@
 -- What a command of a clause can leave at most, beside what was so before it.
-use Rattle.std.specs.Prelude.{◌≡◌, ◌≢◌, ◌⊎◌, ◌||◌, ℕ, ◌<◌, ◌≤◌, Bool, true, List, Option, Some, bit_or}
+use Rattle.std.specs.Prelude.{◌≡◌, ◌≢◌, ◌⊎◌, ◌||◌, ℕ, ◌<◌, ◌≤◌, true, Option, Some, None, bit_or}
 use Rattle.pr_cdb.specs.declared.command.Kind.{Kind}
+use Rattle.pr_cdb.specs.declared.command.Kind.TheVariants.{WriteExclusive, ExclusiveAccess, WriteExclusiveRegistrantsOnly, ExclusiveAccessRegistrantsOnly, WriteExclusiveAllRegistrants, ExclusiveAccessAllRegistrants}
 use Rattle.pr_registry.specs.declared.held.Held.{Held}
-use Rattle.pr_registry.specs.declared.held.Held.TheVariants.{One}
-use Rattle.pr_registry.specs.Changes.{is_kind, is_held_by_all}
-use Rattle.pr_registry.specs.Registrations.{new_reservation, holds_alone}
+use Rattle.pr_registry.specs.declared.held.Held.TheVariants.{One, All}
+use Rattle.pr_registry.specs.Registrations.{new_reservation}
 use Rattle.pr_unit.specs.UnitStates.{UnitState}
-use Rattle.pr_roles.specs.declared.role.Action.{Action}
-use Rattle.pr_roles.specs.declared.role.Action.TheVariants as action
 use Rattle.pr_roles.specs.declared.role.Clause.{Clause}
 use Rattle.pr_roles.specs.Fitting.{is_reservation}
 use Rattle.pr_roles.specs.declared.limits.TheConstants.{MOST_KEYS}
@@ -20,9 +18,9 @@ use Rattle.pr_views.specs.declared.view.TheConstants.{RESERVATIONS_PREEMPTED_BIT
 use Rattle.pr_views.specs.Possibilities.{Scope, Item, Registration, Reservation, Attentions, IsSo, number_of}
 use Rattle.pr_views.specs.Views.{IsPossible, Shows}
 use Rattle.pr_views.specs.Portions.{has_at, view_in}
-use Rattle.pr_regions.specs.Purposes.{number_in}
 use Rattle.pr_regions.specs.declared.place.Place.{Place}
 use Rattle.pr_interference.specs.declared.onlooker.Onlooker.{Onlooker}
+use Rattle.pr_interference.specs.declared.holders.Holders.{Holders}
 use Rattle.pr_interference.specs.declared.reach.Reach.{Reach}
 use Rattle.pr_interference.specs.inside.Interfering.{IsOnlooking}
 use Rattle.pr_interference.specs.inside.Clauses.{PlaceLeads}
@@ -42,10 +40,6 @@ HasReservation reservations hosts held = has_wide reservations (number_of hosts 
 -- among them is the one of this type that the sender establishes
 abbrev pub HasNew : Wide → ℕ → Kind → ℕ → Type 0
 HasNew reservations hosts kind sender = HasReservation reservations hosts (new_reservation kind sender)
-
--- the sender of the place holds alone, or all registrants hold
-abbrev pub is_held_with : Place → Bool
-is_held_with place = holds_alone place.held place.sender || is_held_by_all place.held
 
 -- a nexus may have this registration
 abbrev pub MayHave : Possibilities → ℕ → ℕ → Type 0
@@ -83,40 +77,24 @@ Reaches o clause reach = (s : Scope) → IsOnlooking s o → IsReach s o.view cl
 abbrev pub IsReachAt : Scope → Possibilities → Clause → Place → Reach → Type 0
 IsReachAt s view clause place reach = (u w : UnitState) → PlaceLeads (view_in s view) clause place.sender place.reservation u w → IsWithin s place.sender reach u w
 
--- the second reaches whatever the first does
-pub record IsWider (narrow wide : Reach) : Type 0 where
-  pub given : (n : ℕ) → has narrow.given n ≡ true → has wide.given n ≡ true
-  pub removed : (n : ℕ) → has narrow.removed n ≡ true → has wide.removed n ≡ true
-  pub reservations : (n : ℕ) → has_wide narrow.reservations n ≡ true → has_wide wide.reservations n ≡ true
-  pub told_03 : (n : ℕ) → has narrow.told_03 n ≡ true → has wide.told_03 n ≡ true
-  pub told_04 : (n : ℕ) → has narrow.told_04 n ≡ true → has wide.told_04 n ≡ true
-  pub told_05 : (n : ℕ) → has narrow.told_05 n ≡ true → has wide.told_05 n ≡ true
-
 -- each but the sender may be free or have the key of this number
-abbrev pub MayAllGo : Possibilities → Place → ℕ → Type 0
-MayAllGo view place j = (g : ℕ) → g < place.hosts → g ≢ place.sender → (has_at view.registrations g 0 || has_at view.registrations g j) ≡ true
+abbrev pub MayAllGo : Possibilities → ℕ → ℕ → ℕ → Type 0
+MayAllGo view hosts sender j = (g : ℕ) → g < hosts → g ≢ sender → (has_at view.registrations g 0 || has_at view.registrations g j) ≡ true
 
--- x is the number of a reservation that is not of another type with one holder
-pub record IsOfOneType (hosts : ℕ) (kind : Kind) (x : ℕ) : Type 0 where
-  pub held : Option Held
-  pub fits : is_reservation hosts held ≡ true
-  pub number : x ≡ number_of hosts held
-  pub alike : (old : Kind) (holder : ℕ) → held ≡ Some (One old holder) → is_kind old kind ≡ true
+-- the reservation is among those that they may hold
+abbrev pub IsHeldAmong : Holders → Option Held → Type 0
+IsHeldAmong p None = p.nobody ≡ true
+IsHeldAmong p (Some (One WriteExclusive h)) = has p.write h ≡ true
+IsHeldAmong p (Some (One ExclusiveAccess h)) = has p.exclusive h ≡ true
+IsHeldAmong p (Some (One WriteExclusiveRegistrantsOnly h)) = has p.write_registrants h ≡ true
+IsHeldAmong p (Some (One ExclusiveAccessRegistrantsOnly h)) = has p.exclusive_registrants h ≡ true
+IsHeldAmong p (Some (One WriteExclusiveAllRegistrants h)) = ⊥
+IsHeldAmong p (Some (One ExclusiveAccessAllRegistrants h)) = ⊥
+IsHeldAmong p (Some (All kind)) = p.everybody ≡ true
 
--- each of them is
-abbrev pub AreOfOneType : ℕ → Kind → Wide → Type 0
-AreOfOneType hosts kind reservations = (x : ℕ) → has_wide reservations x ≡ true → IsOfOneType hosts kind x
-
--- the number of the key that an action registers or preempts
-abbrev pub number_named : List ℕ → Action → ℕ
-number_named keys (action.Register key) = number_in keys key
-number_named keys action.Unregister = 0
-number_named keys (action.Reserve kind) = 0
-number_named keys action.Release = 0
-number_named keys action.Clear = 0
-number_named keys (action.Preempt key kind) = number_in keys key
-number_named keys action.Read = 0
-number_named keys action.Write = 0
+-- every one of these reservations is
+abbrev pub AreHolders : ℕ → Wide → Holders → Type 0
+AreHolders hosts possible p = (held : Option Held) → is_reservation hosts held ≡ true → has_wide possible (number_of hosts held) ≡ true → IsHeldAmong p held
 
 -- such a command leaves no more
 abbrev pub IsMost : Scope → Possibilities → Clause → ℕ → Possibilities → Type 0

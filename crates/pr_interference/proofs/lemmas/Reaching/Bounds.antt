@@ -19,7 +19,7 @@ use Rattle.pr_regions.proofs.lemmas.Purposes.Conduct.{key_named, after_for, chan
 use Rattle.pr_regions.proofs.lemmas.Regions.ChangedStates.{then_in}
 use Rattle.pr_regions.specs.Conditions.{holds_as}
 use Rattle.pr_regions.proofs.lemmas.Conditions.Senders.{holds_by}
-use Rattle.pr_interference.specs.inside.Reaching.{IsTold, IsWithin, IsAtMost, IsReach, IsReachAt, IsWider, MayAllGo, IsMost, HasShown, HasEveryKey, HasEveryKeyBut}
+use Rattle.pr_interference.specs.inside.Reaching.{IsTold, IsWithin, IsAtMost, IsReach, IsReachAt, MayAllGo, IsMost, HasShown, HasEveryKey, HasEveryKeyBut}
 use Rattle.pr_interference.proofs.lemmas.Interfering.Placements.{has_number}
 use Rattle.pr_interference.proofs.lemmas.Clauses.Spellings.{not_refused}
 use Rattle.pr_interference.proofs.lemmas.Reaching.Effects.{register_within, unregister_within, reserve_within, release_within, clear_within, preempt_all_within, preempt_key_within}
@@ -119,7 +119,7 @@ module _ (s : Scope) (o : Onlooker) (place : Place) (clause : Clause) (reach : R
 
   pub preempt_key_reach : (key : ℕ) (t : Kind) → clause.action ≡ action.Preempt key t → key ≢ 0
       → (has_at o.view.registrations place.sender (number_in s.keys key) ≡ true → has reach.given 0 ≡ true)
-      → (is_held_by_all place.held ≡ true → has_at o.view.registrations place.sender (number_in s.keys key) ≡ true → MayAllGo o.view place (number_in s.keys key) → has_wide reach.reservations 0 ≡ true) → has reach.removed (number_in s.keys key) ≡ true
+      → (is_held_by_all place.held ≡ true → has_at o.view.registrations place.sender (number_in s.keys key) ≡ true → MayAllGo o.view place.hosts place.sender (number_in s.keys key) → has_wide reach.reservations 0 ≡ true) → has reach.removed (number_in s.keys key) ≡ true
       → ((old : Kind) (g : ℕ) → place.held ≡ Some (One old g) → has_at o.view.registrations g (number_in s.keys key) ≡ true → has_wide reach.reservations (number_of place.hosts (Some (new_reservation t place.sender))) ≡ true)
       → ((old : Kind) (g : ℕ) → place.held ≡ Some (One old g) → has_at o.view.registrations g (number_in s.keys key) ≡ true → is_kind old t ≡ false
       → HasEveryKeyBut (number_in s.keys key) reach.told_04)
@@ -158,7 +158,7 @@ module _ (s : Scope) (o : Onlooker) (place : Place) (clause : Clause) (reach : R
       mine same = subst (λ r. has_at o.view.registrations place.sender r ≡ true) same seen.1.0.1
 
       -- what all others are they may be
-      may_go : ((g n : ℕ) → g ≢ place.sender → IsSo s u (Registration g n) → (n ≡ 0) ⊎ (n ≡ j)) → MayAllGo o.view place j
+      may_go : ((g n : ℕ) → g ≢ place.sender → IsSo s u (Registration g n) → (n ≡ 0) ⊎ (n ≡ j)) → MayAllGo o.view place.hosts place.sender j
       may_go go g below other =
           let it = shown.registrations g (subst (λ n. g < n) (sym is.known.hosts) below) in
           by it.0 it.1.0.1 (go g it.0 other it.1.1)
@@ -197,64 +197,6 @@ module _ (s : Scope) (o : Onlooker) (place : Place) (clause : Clause) (reach : R
       registered_too (Some condition.Holder) (Some (One t h)) b meets = meets
       registered_too (Some condition.Reserved) v b meets = meets
       registered_too _ _ b meets = refl
-
--- ---- reservation after reservation
-
-pub wider_within : (s : Scope) (from : ℕ) (narrow wide : Reach) (u w : UnitState) → IsWider narrow wide → IsWithin s from narrow u w → IsWithin s from wide u w
-wider_within s from narrow wide u w wider is = record {
-  sender = λ r so. let found = is.sender r so in (found.0, found.1, given found.0 r found.2);
-  others = λ g r other so. let found = is.others g r other so in (found.0, found.1, removed found.0 r found.2);
-  reservation = (is.reservation.0, is.reservation.1, reserved is.reservation.0 is.reservation.2);
-  told = λ r q so pending. let found = is.told r q so pending in (found.0, found.1, told found.0 r q found.2);
-}
-  where
-    given : (n r : ℕ) → (n ≡ r) ⊎ (has narrow.given n ≡ true) → (n ≡ r) ⊎ (has wide.given n ≡ true)
-    given n r (inl same) = inl same
-    given n r (inr new) = inr (wider.given n new)
-
-    removed : (n r : ℕ) → (n ≡ r) ⊎ ((n ≡ 0) × (has narrow.removed r ≡ true)) → (n ≡ r) ⊎ ((n ≡ 0) × (has wide.removed r ≡ true))
-    removed n r (inl same) = inl same
-    removed n r (inr gone) = inr (gone.0, wider.removed r gone.1)
-
-    reserved : (x : ℕ) → IsSo s u (Reservation x) ⊎ (has_wide narrow.reservations x ≡ true) → IsSo s u (Reservation x) ⊎ (has_wide wide.reservations x ≡ true)
-    reserved x (inl before) = inl before
-    reserved x (inr new) = inr (wider.reservations x new)
-
-    told : (n r q : ℕ) → (n ≡ q) ⊎ IsTold narrow r q n → (n ≡ q) ⊎ IsTold wide r q n
-    told n r q (inl same) = inl same
-    told n r q (inr (inl tells)) = inr (inl (wider.told_03 r tells.0, tells.1))
-    told n r q (inr (inr (inl tells))) = inr (inr (inl (wider.told_04 r tells.0, tells.1)))
-    told n r q (inr (inr (inr tells))) = inr (inr (inr (wider.told_05 r tells.0, tells.1)))
-
--- what is reached under one of the first reservations
-abbrev pub IsReachBelow : Scope → Possibilities → Clause → ℕ → ℕ → Reach → Type 0
-IsReachBelow s view clause sender n reach = (x : ℕ) (u w : UnitState) → x < n → PlaceLeads (view_in s view) clause sender x u w → IsWithin s sender reach u w
-
-pub reach_more : (s : Scope) (view : Possibilities) (clause : Clause) (place : Place) (n : ℕ) (old here wide : Reach) → place.reservation ≡ n → IsWider old wide → IsWider here wide
-    → IsReachBelow s view clause place.sender n old → IsReachAt s view clause place here → IsReachBelow s view clause place.sender (n + 1) wide
-reach_more s view clause place n old here wide number before_wider here_wider before at x u w small led = by (eqb_tells x n)
-  where
-    by : (((x == n) ≡ true) × (x ≡ n)) ⊎ (((x == n) ≡ false) × (x ≢ n)) → IsWithin s place.sender wide u w
-    by (inl same) = wider_within s place.sender here wide u w here_wider (at u w (subst (λ y. PlaceLeads (view_in s view) clause place.sender y u w) (same.1 ∙ sym number) led))
-    by (inr other) = wider_within s place.sender old wide u w before_wider (before x u w (let differs = other.1 in omega arith) led)
-
-pub reach_skips : (s : Scope) (view : Possibilities) (clause : Clause) (sender n : ℕ) (reach : Reach) → has_wide view.reservations n ≡ false → IsReachBelow s view clause sender n reach
-    → IsReachBelow s view clause sender (n + 1) reach
-reach_skips s view clause sender n reach missing before x u w small led = by (eqb_tells x n)
-  where
-    by : (((x == n) ≡ true) × (x ≡ n)) ⊎ (((x == n) ≡ false) × (x ≢ n)) → IsWithin s sender reach u w
-    by (inl same) =
-        let seen = led.leads.shown.reservation in
-        absurd (false≢true (sym missing ∙ subst (λ y. has_wide view.reservations y ≡ true) (one_reservation s u seen.0 x seen.1.1 led.leads.reserved ∙ same.1) seen.1.0))
-    by (inr other) = before x u w (let differs = other.1 in omega arith) led
-
-pub reach_all : (s : Scope) (o : Onlooker) (clause : Clause) (count : ℕ) (reach : Reach) → IsOnlooking s o → count ≡ count_of_reservations o.hosts
-    → IsReachBelow s o.view clause o.other count reach → IsReach s o.view clause o.other reach
-reach_all s o clause count reach is all below x u w led =
-    let seen = led.leads.shown.reservation in
-    let small = is.fits.reservations seen.0 seen.1.0 in
-    let same = one_reservation s u seen.0 x seen.1.1 led.leads.reserved in
-    below x u w (subst (λ n. x < n) (sym (all ∙ ap count_of_reservations (sym is.hosts))) (subst (λ y. y < count_of_reservations s.hosts) same small)) led
 
 module _ (s : Scope) (o : Onlooker) (clause : Clause) (reach : Reach) (is : IsOnlooking s o) where
   -- ---- what is possible within a reach
@@ -376,11 +318,8 @@ has_there words g r d is = at (cases_lt g (length words))
 abbrev pub Marks : BitSet → BitSet → BitSet → ℕ → BitSet → Type 0
 Marks owners told pending mark result = (r q : ℕ) → has owners r ≡ true → has told r ≡ true → has pending q ≡ true → q < ATTENTION_SETS → has result (bit_or q mark) ≡ true
 
-pub told_joined : (reach : Reach) (owners pending a b c d e : BitSet) (r q n : ℕ) → Marks owners reach.told_03 pending 2 a → Marks owners reach.told_04 pending 4 b → Marks owners reach.told_05 pending 8 c
-    → ((m : ℕ) → has d m ≡ (has b m || has c m)) → ((m : ℕ) → has e m ≡ (has a m || has d m)) → has owners r ≡ true → has pending q ≡ true → q < ATTENTION_SETS → IsTold reach r q n → has e n ≡ true
-told_joined reach owners pending a b c d e r q n first second third joined all owns pends small tells = all n ∙ at tells
-  where
-    at : IsTold reach r q n → (has a n || has d n) ≡ true
-    at (inl tells) = or_left (has a n) (has d n) (subst (λ m. has a m ≡ true) (sym tells.1) (first r q owns tells.0 pends small))
-    at (inr (inl tells)) = or_right (has a n) (has d n) (joined n ∙ or_left (has b n) (has c n) (subst (λ m. has b m ≡ true) (sym tells.1) (second r q owns tells.0 pends small)))
-    at (inr (inr tells)) = or_right (has a n) (has d n) (joined n ∙ or_right (has b n) (has c n) (subst (λ m. has c m ≡ true) (sym tells.1) (third r q owns tells.0 pends small)))
+pub told_among : (reach : Reach) (owners pending answer : BitSet) (r q n : ℕ) → Marks owners reach.told_03 pending 2 answer → Marks owners reach.told_04 pending 4 answer → Marks owners reach.told_05 pending 8 answer
+    → has owners r ≡ true → has pending q ≡ true → q < ATTENTION_SETS → IsTold reach r q n → has answer n ≡ true
+told_among reach owners pending answer r q n first second third owns pends small (inl tells) = subst (λ m. has answer m ≡ true) (sym tells.1) (first r q owns tells.0 pends small)
+told_among reach owners pending answer r q n first second third owns pends small (inr (inl tells)) = subst (λ m. has answer m ≡ true) (sym tells.1) (second r q owns tells.0 pends small)
+told_among reach owners pending answer r q n first second third owns pends small (inr (inr tells)) = subst (λ m. has answer m ≡ true) (sym tells.1) (third r q owns tells.0 pends small)

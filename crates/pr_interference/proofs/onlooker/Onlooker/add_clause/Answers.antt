@@ -2,7 +2,7 @@ use Rattle.pr_interference.proofs.Common.{◌≡◌, ◌+◌, sym, refl, ◌∙�
 use Rattle.pr_interference.proofs.lemmas.Interfering.RoleEffects.{first_none, first_more, first_skips}
 use Rattle.pr_regions.proofs.lemmas.Showing.ShownStates.{is_place}
 use Rattle.pr_interference.proofs.lemmas.Reaching.Bounds.{adds_most}
-use Rattle.pr_interference.proofs.onlooker.Onlooker.add_clause.Goals.{then-has, else-has}
+use Rattle.pr_interference.proofs.onlooker.Onlooker.add_clause.Goals.{then-has+else-not-may_gain-2, else-has}
 use Rattle.pr_interference.proofs.onlooker.Onlooker.add_clause.Goals as goal
 
 pub loop-reservation-init : goal.loop-reservation-init
@@ -16,7 +16,7 @@ loop-reservation-preserved c s is =
     let old = c.args.answer.now in
     let so_far = c.loop-reservation.answer in
     elim c.if-has.branch [
-      | then-has w ↦
+      | then-has+else-not-may_gain-2 w ↦
           let place = w.of-place.result in
           let here = is_place s o.view place o.hosts n is.hosts is.fits (sym c.has.ensures ∙ w.if-has.true) w.of-place.ensures.hosts w.of-place.ensures.reservation in
           let watched : IsWatched s o place = record { known = here; own = is.own; other = λ equal. is.other (equal ∙ w.of-place.ensures.sender) } in
@@ -36,16 +36,16 @@ returns c s is =
     subst (λ n. Adds s c.args.answer.now c.loop-reservation.answer (FirstLeads n (view_in s c.args.self.now.view) c.args.clause.now c.args.self.now.other)
     (ClauseLeaves (view_in s c.args.self.now.view) c.args.clause.now c.args.self.now.other)) whole (c.loop-reservation.invariant s is)
 
-pub returns-then-not-gains : goal.returns-then-not-gains
-returns-then-not-gains c s is =
+pub returns-then-not-may_gain : goal.returns-then-not-may_gain
+returns-then-not-may_gain c s is =
     let o = c.args.self.now in
     let clause = c.args.clause.now in
-    adds_most s o clause c.args.answer.now c.args.answer.now c.most.result 0 (count_of_reservations o.hosts) (c.requires.shown s is)
-    (c.most.ensures s clause is (c.widest.ensures s is)) (c.if-not-gains.ensures.none refl s is.hosts) (first_none s c.args.answer.now o.view clause o.other (ClauseLeaves (view_in s o.view) clause o.other))
+    adds_most s o clause c.args.answer.now c.args.answer.now c.args.answer.now 0 (count_of_reservations o.hosts) (c.requires.shown s is)
+    (c.may_gain.ensures c.if-not-may_gain.true s clause is (c.reach-reach.ensures s is)) (λ i possible. possible) (first_none s c.args.answer.now o.view clause o.other (ClauseLeaves (view_in s o.view) clause o.other))
 
-pub returns-then-not-gains-2 : goal.returns-then-not-gains-2
-returns-then-not-gains-2 c s is =
+pub returns-then-not-may_gain-2 : goal.returns-then-not-may_gain-2
+returns-then-not-may_gain-2 c s is =
     let o = c.args.self.now in
     let clause = c.args.clause.now in
-    adds_most s o clause c.args.answer.now c.loop-reservation.answer c.most-most.result c.loop-reservation.reservation (count_of_reservations o.hosts)
-    (c.requires.shown s is) (c.most-most.ensures s clause is (c.reach.ensures s is)) (c.if-not-gains-2.ensures.none refl s is.hosts) (c.loop-reservation.invariant s is)
+    adds_most s o clause c.args.answer.now c.loop-reservation.answer c.loop-reservation.answer c.loop-reservation.reservation (count_of_reservations o.hosts)
+    (c.requires.shown s is) (c.may_gain-then-has.ensures c.if-not-may_gain-2.true s clause is (c.reach-reach.ensures s is)) (λ i possible. possible) (c.loop-reservation.invariant s is)

@@ -1,0 +1,4 @@
+use Rattle.pr_interference.proofs.reach.unreserved_if.Goals as goal
+
+pub returns-then-is : goal.returns-then-is
+returns-then-is c is = c.only.ensures 0
