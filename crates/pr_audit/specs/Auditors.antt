@@ -70,11 +70,11 @@ IsPast e k after =
     × (((line : ℕ) (command : Command) → standing_of k ≡ Some (ready line command) → e.wire ≡ spelling command → ⊥) → after ≡ k)
 
 -- the line at which a script is ready to send, and its command there; None where it is stopped
-abbrev pub next_by : Option Standing → Option (ℕ × Command)
-next_by None = None
-next_by (Some (ready line command)) = Some (line, command)
-next_by (Some (stopped word)) = None
+abbrev pub send_by : Option Standing → Option (ℕ × Command)
+send_by None = None
+send_by (Some (ready line command)) = Some (line, command)
+send_by (Some (stopped word)) = None
 
 -- the same of one that acts so: nothing where a script is trapped, nor of a guest
-abbrev pub next_of : Control → Option (ℕ × Command)
-next_of k = next_by (standing_of k)
+abbrev pub send_of : Control → Option (ℕ × Command)
+send_of k = send_by (standing_of k)

@@ -4,7 +4,7 @@ ghost use Rattle.std.specs.Prelude.{◌≡◌, ◌<◌, [], Some, length, slice_
 ghost use Rattle.pr_roles.specs.Scenarios.{scenario_of};
 ghost use Rattle.pr_roles.specs.FirstStarts.{first_state};
 ghost use Rattle.pr_roles.specs.Worlds.{control};
-ghost use Rattle.pr_audit.specs.Auditors.{IsAuditorOf, IsPast, IsTriedAfter, StartsAt, next_of, world_at};
+ghost use Rattle.pr_audit.specs.Auditors.{IsAuditorOf, IsPast, IsTriedAfter, StartsAt, send_of, world_at};
 ghost use Rattle.pr_audit.specs.Ends.{IsEndBy};
 ghost use Rattle.pr_audit.specs.inside.Auditing.{AreFirstSenders, how_of};
 
@@ -105,7 +105,7 @@ impl Auditor {
     /// nor of a guest.
     pub fn next_command(&self, host: u8) -> Option<(u32, Command)>
         requires { host < length (world_at self.now []).controls }
-        ensures { result ≡ next_of (control (world_at self.now []) host) }
+        ensures { result ≡ send_of (control (world_at self.now []) host) }
     {
         self.senders[usize::from(host)].next_command()
     }

@@ -5,7 +5,7 @@ ghost use Rattle.pr_cdb.specs.Requests.{AreBytes};
 ghost use Rattle.pr_roles.specs.Permits.{is_permitted};
 ghost use Rattle.pr_roles.specs.Scenarios.{task_of};
 ghost use Rattle.pr_roles.specs.Worlds.{control_of};
-ghost use Rattle.pr_audit.specs.Auditors.{IsPast, control_by, is_free, next_of};
+ghost use Rattle.pr_audit.specs.Auditors.{IsPast, control_by, is_free, send_of};
 ghost use Rattle.pr_audit.specs.Ends.{IsEndBy};
 ghost use Rattle.pr_audit.specs.inside.Auditing.{IsAnswered, IsGuestJudged, JudgesEntry, IsShort};
 
@@ -43,7 +43,7 @@ impl Sender {
 
     /// The line of the send at which the host's script is ready, with its command.
     pub(crate) fn next_command(&self) -> Option<(u32, Command)>
-        ensures { result ≡ next_of (control_by self.now) }
+        ensures { result ≡ send_of (control_by self.now) }
     {
         match self {
             Sender::Host(machine) => match machine.next() {
