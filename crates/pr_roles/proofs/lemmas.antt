@@ -1,6 +1,5 @@
 pub mod FirstStarts
 pub mod Fitting
 pub mod Laws
-pub mod Safety
 pub mod Starts
 pub mod Worlds

@@ -1,12 +1,15 @@
 -- Agrees with docs/VERDICTS.md, '`accepted`'.
 -- What outlines promise, and what safety promises of the next event.
-use Rattle.std.specs.Prelude.{◌≡◌, ℕ, false, List, [], ◌∷◌, ◌++◌}
+use Rattle.std.specs.Prelude.{◌≡◌, ℕ, true, false, IsTrue, List, [], ◌∷◌, ◌++◌}
+use Rattle.pr_cdb.specs.declared.wire.Request.TheVariants.{Plain}
 use Rattle.pr_unit.specs.UnitStates.{UnitState}
+use Rattle.pr_unit.specs.Replies.{is_good}
 use Rattle.pr_roles.specs.declared.how.How.{How}
-use Rattle.pr_roles.specs.Scenarios.{Scenario, task}
+use Rattle.pr_roles.specs.Permits.{is_permitted}
+use Rattle.pr_roles.specs.Scenarios.{Scenario, role, task}
 use Rattle.pr_roles.specs.Starts.{IsAllowedStart}
-use Rattle.pr_roles.specs.Worlds.{World, Event, Host, HostSends, Happens, Run, control, is_trapped, world_from}
-use Rattle.pr_roles.specs.Safety.{IsSafe, KeepsBudgetBy, KeepsRole}
+use Rattle.pr_roles.specs.Worlds.{World, Event, HostSends, Happens, Run, control, is_trapped, world_from}
+use Rattle.pr_roles.specs.Safety.{IsSafe, KeepsBudgetBy}
 use Rattle.pr_script.specs.Scripts.{Stmts}
 use Rattle.pr_verify.specs.declared.refusal.Refusal.{Refusal}
 use Rattle.pr_verify.specs.Outlines.{AllSendsFit, HasOutline, HaveOutlines}
@@ -25,7 +28,7 @@ RunsGoOn = (s : Scenario) (w v x : World) (es : List Event) (e : Event) → Run 
 pub record IsFine (s : Scenario) (w : World) (h : ℕ) (how : How) (v : World) (sends : HostSends s w h how v) : Type 0 where
   pub arm : is_trapped (control v h) ≡ false
   pub budget : KeepsBudgetBy (task s h) v h
-  pub role : KeepsRole s w (Host h how) v sends
+  pub role : is_good sends.reply ≡ true → IsTrue (is_permitted (role s h) w.unit.registry h (Plain sends.command))
 
 -- so does each that comes after a run of a safe scenario
 abbrev pub SafeSendsAreFine : Type 0

@@ -7,18 +7,16 @@ use Rattle.pr_roles.specs.Safety.{IsSafe}
 use Rattle.pr_roles.specs.Scenarios.{Scenario}
 use Rattle.pr_roles.specs.Starts.{IsAllowedStart}
 use Rattle.pr_roles.specs.Worlds.{World, Event, Run, is_trapped, world_from}
-use Rattle.pr_verify.proofs.lemmas.Laws.Runs.{safe_sends_are_fine}
 use Rattle.pr_witness.specs.Breaches.{BreachesAreLegal, BreachesRefuteSafety}
 
 -- no run of a safe scenario has broken anything
 nothing_broken : (s : Scenario) (u : UnitState) (w : World) (es : List Event) (broken : Broken) → IsSafe s → IsAllowedStart s u → Run s (world_from s u) es w → Breaks s u w broken → ⊥
 unfolding IsSafe
 nothing_broken s u w es (meets_no_arm h line) safe allowed run breaks =
-    false≢true (sym ((safe u allowed es w run).0 h).0 ∙ ap is_trapped breaks)
+    false≢true (sym (safe u allowed es w run h).0 ∙ ap is_trapped breaks)
 nothing_broken s u w es (leaves_role h line) safe allowed run breaks =
-    let fine = safe_sends_are_fine s u breaks.events breaks.before h breaks.how w safe allowed breaks.run breaks.sends in
-    false≢true (sym breaks.forbidden ∙ fine.role breaks.good)
-nothing_broken s u w es (exceeds_budget h) safe allowed run breaks = breaks ((safe u allowed es w run).0 h).1
+    false≢true (sym breaks.forbidden ∙ (safe u allowed breaks.events breaks.before breaks.run h).2 breaks.how w breaks.sends breaks.good)
+nothing_broken s u w es (exceeds_budget h) safe allowed run breaks = breaks (safe u allowed es w run h).1
 
 pub breaches_refute_safety : BreachesRefuteSafety
 breaches_refute_safety s u history broken breach safe =

@@ -18,7 +18,7 @@ use Rattle.pr_script.proofs.lemmas.Costs.Budgets.{cost_bounds_sends}
 use Rattle.pr_roles.specs.declared.item.Item.{Item}
 use Rattle.pr_roles.specs.Scenarios.{Planned}
 use Rattle.pr_roles.specs.Worlds.{Going, Free, Event, Guest, UnitReset, HostSends, GuestSends, IsReset, Happens, Run, after_reset, resets_in, going_or_trapped, is_guest_task, commands_by, standing_of, control_after}
-use Rattle.pr_roles.specs.Safety.{KeepsRole, KeepsRoles}
+use Rattle.pr_roles.specs.Permits.{is_permitted}
 use Rattle.pr_roles.proofs.lemmas.Worlds.Controls.{there, at_start as begins}
 use Rattle.pr_interference.specs.Interference.{declares_resets}
 use Rattle.pr_verify.specs.Outlines.{AllSendsFit}
@@ -195,17 +195,18 @@ own_kept s h script budget w x n c wire r u at own = goes_on (take x.rest r) ref
           (within_cost_taken (commands_by w.history h) x.rest m r (cost_of_all script) at.one control_after x.spent);
     }
 
--- what an event leaves, and that it keeps to the role
-abbrev IsTurned : (s : Scenario) (w : World) (e : Event) (v : World) → Happens s w e v → Type 0
-IsTurned s w e v happens = KeepsRole s w e v happens × IsKept s v
+-- what a host's command leaves, and that it keeps to the role
+abbrev pub IsTurned : (s : Scenario) (w : World) (h : ℕ) (k : How) (v : World) → HostSends s w h k v → Type 0
+IsTurned s w h k v happens =
+    (is_good happens.reply ≡ true → IsTrue (is_permitted (role s h) w.unit.registry h (Plain happens.command))) × IsKept s v
 
-host_kept : (s : Scenario) (w : World) (h : ℕ) (k : How) (v : World) (happens : HostSends s w h k v) → IsKept s w → IsTurned s w (Host h k) v happens
+pub host_kept : (s : Scenario) (w : World) (h : ℕ) (k : How) (v : World) (happens : HostSends s w h k v) → IsKept s w → IsTurned s w h k v happens
 host_kept s w h k v happens kept = at (task s h) refl (kept h)
   where
-    idle : control w h ≡ Free → IsTurned s w (Host h k) v happens
+    idle : control w h ≡ Free → IsTurned s w h k v happens
     idle free = absurd (none-some (ready happens.line happens.command) (ap standing_of (sym free) ∙ happens.ready))
 
-    at : (t : Option Task) → task s h ≡ t → IsKeptBy t s w h → IsTurned s w (Host h k) v happens
+    at : (t : Option Task) → task s h ≡ t → IsKeptBy t s w h → IsTurned s w h k v happens
     at (Some (Scripted script budget)) is x =
         let c = happens.command in
         let r = happens.reply in
@@ -261,14 +262,11 @@ reset_kept s w v happens kept =
 
 -- ---- runs
 
-event_kept : (s : Scenario) (w : World) (e : Event) (v : World) (happens : Happens s w e v) → IsKept s w → IsTurned s w e v happens
-event_kept s w (Host h k) v happens kept = host_kept s w h k v happens kept
-event_kept s w (Guest g wire k) v happens kept = (tt, guest_kept s w g wire k v happens kept)
-event_kept s w UnitReset v happens kept = (tt, reset_kept s w v happens kept)
+event_kept : (s : Scenario) (w : World) (e : Event) (v : World) → Happens s w e v → IsKept s w → IsKept s v
+event_kept s w (Host h k) v happens kept = (host_kept s w h k v happens kept).1
+event_kept s w (Guest g wire k) v happens kept = guest_kept s w g wire k v happens kept
+event_kept s w UnitReset v happens kept = reset_kept s w v happens kept
 
-pub run_kept : (s : Scenario) (w : World) (es : List Event) (v : World) (run : Run s w es v) → IsKept s w → IsKept s v × KeepsRoles s w es v run
-run_kept s w [] v run kept = (subst (IsKept s) (sym run) kept, tt)
-run_kept s w (e ∷ es) v run kept =
-    let turn = event_kept s w e run.0 run.1 kept in
-    let rest = run_kept s run.0 es v run.2 turn.1 in
-    (rest.0, (turn.0, rest.1))
+pub run_kept : (s : Scenario) (w : World) (es : List Event) (v : World) → Run s w es v → IsKept s w → IsKept s v
+run_kept s w [] v run kept = subst (IsKept s) (sym run) kept
+run_kept s w (e ∷ es) v run kept = run_kept s run.0 es v run.2 (event_kept s w e run.0 run.1 kept)

@@ -121,5 +121,5 @@ gets_trapped = refl
 is_not_safe : IsSafe lacking → ⊥
 unfolding IsSafe
 is_not_safe safe =
-    let run = safe fresh_unit starts_fresh (Host 0 how.Plain ∷ []) answered (answered, is_answered, refl) in
-    false≢true (sym (run.0 0).0 ∙ gets_trapped)
+    let run = safe fresh_unit starts_fresh (Host 0 how.Plain ∷ []) answered (answered, is_answered, refl) 0 in
+    false≢true (sym run.0 ∙ gets_trapped)

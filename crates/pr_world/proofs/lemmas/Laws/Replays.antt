@@ -24,7 +24,7 @@ none_trapped (k ∷ ks) each = λ i. each zero i || none_trapped ks (λ h. each 
 pub safe_untrapped : (s : Scenario) (steps : List Step) (r : Replayed) → IsSafe s → IsReplayed s steps r → list_any is_trapped_end r.ends.items ≡ false
 unfolding IsSafe
 safe_untrapped s steps r safe x =
-    x.outcome.trapped ∙ none_trapped x.last.world.controls (λ h. ((safe x.start x.allowed x.events x.last.world x.reached).0 h).0)
+    x.outcome.trapped ∙ none_trapped x.last.world.controls (λ h. (safe x.start x.allowed x.events x.last.world x.reached h).0)
 
 -- the count of each, and none past the last
 count_at : (es : List Item) (n h budget : ℕ) → commands_by es h ≤ budget → slice_index (map (λ g. commands_by es g) (range_with_len 0 n)) h ≤ budget
@@ -40,7 +40,7 @@ pub safe_budgets : (s : Scenario) (steps : List Step) (r : Replayed) → IsSafe 
     → slice_index r.counts.items h ≤ budget
 unfolding IsSafe
 safe_budgets s steps r safe x h script budget is =
-    let kept : KeepsBudgetBy (task s h) x.last.world h = ((safe x.start x.allowed x.events x.last.world x.reached).0 h).1 in
+    let kept : KeepsBudgetBy (task s h) x.last.world h = (safe x.start x.allowed x.events x.last.world x.reached h).1 in
     let few : commands_by x.last.world.history h ≤ budget = subst (λ t. KeepsBudgetBy t x.last.world h) is kept in
     subst (λ cs. slice_index cs h ≤ budget) (sym x.outcome.counts) (count_at x.last.world.history (length x.last.plans) h budget few)
 

@@ -36,7 +36,7 @@ reset_finds_room p q c same safe at_work may =
 pub never_trapped : (s : Scenario) (c : Course) (h : ℕ) → IsSafe s → IsAtWork s c → IsTrue (is_trapped (control (schedule_of c).world h)) → ⊥
 unfolding IsSafe
 never_trapped s c h safe at_work trapped =
-    let free = ((safe at_work.reached.start at_work.reached.allowed at_work.reached.events (schedule_of c).world at_work.reached.run).0 h).0 in
+    let free = (safe at_work.reached.start at_work.reached.allowed at_work.reached.events (schedule_of c).world at_work.reached.run h).0 in
     false≢true (sym free ∙ trapped)
 
 -- ---- after it

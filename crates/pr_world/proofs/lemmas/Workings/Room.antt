@@ -193,14 +193,14 @@ unfolding IsSafe
 ready_has_room s steps y h at c script budget safe reached is stands =
     let next = next_sends s y.world h at c stands in
     let run = run_then s (world_from s reached.start) y.world next.0 reached.events (Host h how.Plain) reached.run next.1 in
-    let kept : KeepsBudgetBy (task s h) next.0 h = ((safe reached.start reached.allowed (reached.events ++ Host h how.Plain ∷ []) next.0 run).0 h).1 in
+    let kept : KeepsBudgetBy (task s h) next.0 h = (safe reached.start reached.allowed (reached.events ++ Host h how.Plain ∷ []) next.0 run h).1 in
     let few : commands_by next.0.history h ≤ budget = subst (λ t. KeepsBudgetBy t next.0 h) is kept in
     omega (arith, few, next.2)
 
 -- In a scheduled run of a safe scenario nobody sends more than there is room for.
 pub sent_within : (s : Scenario) (steps : List Step) (y : Schedule) → IsSafe s → IsReached s steps y → (h : ℕ) → commands_by y.world.history h ≤ room_by (task s h)
 unfolding IsSafe KeepsPlans
-sent_within s steps y safe reached h = by (task s h) (reached_keeps_plans s steps y reached h) ((safe reached.start reached.allowed reached.events y.world reached.run).0 h).1
+sent_within s steps y safe reached h = by (task s h) (reached_keeps_plans s steps y reached h) (safe reached.start reached.allowed reached.events y.world reached.run h).1
   where
     by : (t : Option Task) → KeepsPlanBy t (used y h) → KeepsBudgetBy t y.world h → commands_by y.world.history h ≤ room_by t
     by (Some (Scripted script most)) plans budget = budget
