@@ -21,7 +21,7 @@ use Rattle.pr_roles.specs.declared.step.Step.TheVariants as step
 use Rattle.pr_roles.specs.Answers.{how_now}
 use Rattle.pr_roles.specs.Permits.{is_permitted}
 use Rattle.pr_roles.specs.Scenarios.{Scenario, Task, Scripted, Planned, role, task}
-use Rattle.pr_roles.specs.Worlds.{World, control, standing_of, after, after_reset, may_reset, world_from}
+use Rattle.pr_roles.specs.Worlds.{World, control, standing_of, is_guest, after, after_reset, may_reset, world_from}
 
 -- a world, and what is left of each guest's plan
 pub record Schedule : Type 0 where
@@ -44,11 +44,18 @@ pub record Sends (w : World) (h at : ℕ) (command : Command) (how : How) (v : W
   pub answer : TakenAnswer how w.unit h (Plain command) reply unit
   pub world : v ≡ after w h at (spelling command) reply unit
 
--- the turn of a host: its command where it is ready, else nothing
-abbrev pub HostTurn : Option Standing → World → ℕ → How → World → Type 0
-HostTurn (Some (ready at command)) w h how v = Sends w h at command how v
-HostTurn (Some (stopped word)) w h how v = v ≡ w
-HostTurn None w h how v = v ≡ w
+-- What h sends next, on which line of its script, and what is left of its plan then: the command that the script of a host is ready to
+-- send, or the first that is left of a guest's plan.
+abbrev pub next_by : Option Task → Option Standing → List Command → Option (ℕ × Command × List Command)
+next_by None standing planned = None
+next_by (Some (Scripted script budget)) None planned = None
+next_by (Some (Scripted script budget)) (Some (stopped word)) planned = None
+next_by (Some (Scripted script budget)) (Some (ready line c)) planned = Some (line, c, planned)
+next_by (Some (Planned commands)) standing [] = None
+next_by (Some (Planned commands)) standing (c ∷ left) = Some (0, c, left)
+
+abbrev pub next_of : Scenario → Schedule → ℕ → Option (ℕ × Command × List Command)
+next_of s x h = next_by (task s h) (standing_of (control x.world h)) (plan x h)
 
 -- the command would end GOOD, and the role does not permit that
 abbrev pub is_held_back : List Clause → UnitState → ℕ → Command → Bool
@@ -60,24 +67,22 @@ is_passed_over how.Plain clauses u g c = is_held_back clauses u g c
 is_passed_over how.Busy clauses u g c = false
 is_passed_over how.Full clauses u g c = false
 
-abbrev pub SendsUnless : Bool → World → ℕ → Command → How → World → Type 0
-SendsUnless true w g c how v = v ≡ w
-SendsUnless false w g c how v = Sends w g 0 c how v
+-- a guest passes over what is held back
+abbrev pub passes_over : Scenario → Schedule → ℕ → How → Command → Bool
+passes_over s x h how c = is_guest s h && is_passed_over how (role s h) x.world.unit h c
 
--- the turn of a guest: its next planned command, or nothing where that is held back, and then it is passed over
-abbrev pub GuestTurn : List Clause → List Command → World → ℕ → How → World → List Command → Type 0
-GuestTurn clauses [] w g how v left = (v ≡ w) × (left ≡ [])
-GuestTurn clauses (c ∷ cs) w g how v left = SendsUnless (is_passed_over how clauses w.unit g c) w g c how v × (left ≡ cs)
-
-abbrev pub TurnBy : Option Task → Scenario → Schedule → ℕ → How → Schedule → Type 0
-TurnBy None s x h how y = y ≡ x
-TurnBy (Some (Scripted script budget)) s x h how y = HostTurn (standing_of (control x.world h)) x.world h how y.world × (y.plans ≡ x.plans)
-TurnBy (Some (Planned commands)) s x h how y =
-    (left : List Command) × GuestTurn (role s h) (plan x h) x.world h how y.world left × (y.plans ≡ slice_set x.plans h left)
+-- The turn of h, where what it sends is answered so. It sends its next command, or passes it over: then its plan alone is another. Where
+-- there is no next command, nothing happens.
+pub data TurnAs (s : Scenario) (x : Schedule) (h : ℕ) (how : How) (y : Schedule) : Type 0 where
+  sends : (line : ℕ) (c : Command) (left : List Command) → next_of s x h ≡ Some (line, c, left) → passes_over s x h how c ≡ false
+      → Sends x.world h line c how y.world → y.plans ≡ slice_set x.plans h left → TurnAs s x h how y
+  passes : (line : ℕ) (c : Command) (left : List Command) → next_of s x h ≡ Some (line, c, left) → passes_over s x h how c ≡ true
+      → y ≡ record x { plans = slice_set x.plans h left } → TurnAs s x h how y
+  rests : next_of s x h ≡ None → y ≡ x → TurnAs s x h how y
 
 -- the turn of h, answered so where that may still come
 abbrev pub Turn : Scenario → Schedule → ℕ → How → Schedule → Type 0
-Turn s x h how y = TurnBy (task s h) s x h (how_now s x.world.history h how) y
+Turn s x h how y = TurnAs s x h (how_now s x.world.history h how) y
 
 -- the unit is reset where that may still come, else nothing happens
 abbrev pub ResetTurn : Scenario → Schedule → Schedule → Type 0

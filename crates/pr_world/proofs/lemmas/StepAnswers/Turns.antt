@@ -1,5 +1,5 @@
 -- What a step answers is what its turn did.
-use Rattle.pr_world.proofs.Common.{◌≡◌, ℕ, ◌<◌, true, List, [], ◌∷◌, ◌++◌, map, length, IsTrue, None, vec_len, vec_capacity, sym, ap, ◌∙◌, subst, arith, false≢true, stopped, IsSafe, Scenario, scenario_of, control, may_reset, is_trapped, How, Parts, Step, IsReached, Course, participation_of, HappensBy, StandsFor, schedule_of, does}
+use Rattle.pr_world.proofs.Common.{◌≡◌, ℕ, ◌<◌, true, List, [], ◌∷◌, ◌++◌, map, length, IsTrue, vec_len, vec_capacity, sym, ap, ◌∙◌, subst, arith, false≢true, IsSafe, Scenario, scenario_of, control, may_reset, is_trapped, How, Parts, Step, IsReached, Course, participation_of, HappensBy, StandsFor, schedule_of, does}
 use Rattle.std.specs.Prelude.{codes}
 use Rattle.arrayvec.specs.ArrayString.{ArrayString}
 use Rattle.pr_roles.specs.Schedules.{Turn as IsTurn}
@@ -70,28 +70,22 @@ still_at_work p q c d next same at_work more stands room = record {
 
 -- ---- what it did
 
-abbrev pub world_same : (s : Scenario) (c : Course) (h : ℕ) (wanted : How) (a : Act) (d : Course) → entry_in a ≡ None → IsTurned s c h wanted a d → (schedule_of d).world ≡ (schedule_of c).world
-world_same s c h wanted a d none turned = subst (λ o. HappensBy s h o (schedule_of c).world (schedule_of d).world) none turned.happens
-
 pub said_stopped : (wanted : How) (s : Scenario) (c d : Course) (h : ℕ) (a : Act) (r : Turn) (word : ArrayString) → IsTurned s c h wanted a d → a ≡ act.Stopped word → r ≡ turn.Stopped word
     → IfStopped r (λ w. IsStopped s (schedule_of c) h w) × IfStopped r (λ w. schedule_of d ≡ schedule_of c)
 said_stopped wanted s c d h a r word turned is said =
     let host = means wanted s (schedule_of c) h (stops word.bytes) turned.has (sym (ap doing_of is) ∙ turned.does_so) in
-    let same = world_same s c h wanted a d (ap entry_in is) turned in
     subst (λ r. IfStopped r (λ w. IsStopped s (schedule_of c) h w) × IfStopped r (λ w. schedule_of d ≡ schedule_of c)) (sym said)
-    (stopped_is s (schedule_of c) h word.bytes host, stopped_rests wanted s (schedule_of c) (schedule_of d) h (stopped word.bytes) host turned.turn same)
+    (stopped_is s (schedule_of c) h word.bytes host, stopped_rests wanted s (schedule_of c) (schedule_of d) h word.bytes host turned.turn)
 
 pub said_done : (wanted : How) (s : Scenario) (c d : Course) (h : ℕ) (a : Act) (r : Turn) (word : ArrayString) → IsTurned s c h wanted a d → a ≡ act.Finished → r ≡ turn.Stopped word → word.bytes ≡ codes "end"
     → IfStopped r (λ w. IsStopped s (schedule_of c) h w) × IfStopped r (λ w. schedule_of d ≡ schedule_of c)
 said_done wanted s c d h a r word turned is said named =
     let guest = means wanted s (schedule_of c) h is_done turned.has (sym (ap doing_of is) ∙ turned.does_so) in
-    let same = world_same s c h wanted a d (ap entry_in is) turned in
     subst (λ r. IfStopped r (λ w. IsStopped s (schedule_of c) h w) × IfStopped r (λ w. schedule_of d ≡ schedule_of c)) (sym said)
-    (subst (IsStopped s (schedule_of c) h) (sym named) (done_is s (schedule_of c) h guest), done_rests wanted s (schedule_of c) (schedule_of d) h guest turned.turn same)
+    (subst (IsStopped s (schedule_of c) h) (sym named) (done_is s (schedule_of c) h guest), done_rests wanted s (schedule_of c) (schedule_of d) h guest turned.turn)
 
 pub said_held : (wanted : How) (s : Scenario) (c d : Course) (h : ℕ) (a : Act) (r : Turn) → IsTurned s c h wanted a d → a ≡ act.Held → r ≡ turn.Held
     → IfHeld r (PassesOver s (schedule_of c) h (schedule_of d))
 said_held wanted s c d h a r turned is said =
     let guest = means wanted s (schedule_of c) h passes turned.has (sym (ap doing_of is) ∙ turned.does_so) in
-    let same = world_same s c h wanted a d (ap entry_in is) turned in
-    subst (λ r. IfHeld r (PassesOver s (schedule_of c) h (schedule_of d))) (sym said) (passed_over wanted s (schedule_of c) (schedule_of d) h guest turned.turn same)
+    subst (λ r. IfHeld r (PassesOver s (schedule_of c) h (schedule_of d))) (sym said) (passed_over wanted s (schedule_of c) (schedule_of d) h guest turned.turn)

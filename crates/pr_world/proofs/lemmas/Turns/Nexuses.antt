@@ -1,10 +1,11 @@
 -- What a nexus is, where its turn does one thing or another.
-use Rattle.pr_world.proofs.Common.{◌≡◌, ℕ, zero, suc, ◌<◌, Bool, true, false, List, [], ◌∷◌, length, get_or, if◌then◌else◌, slice_get, slice_set, Some, None, Option, sym, refl, ap, ◌∙◌, subst, arith, option_map_or, false≢true, Command, UnitState, Stmts, Standing, ready, stopped, how_now, Task, Scripted, Planned, role, task, Scenario, Schedule, plan, is_passed_over, GuestTurn, TurnBy, Turn, Control, Going, Trapped, Free, standing_of, control, How, Item, Clause, is_free, is_planned, Participation, schedule_by, StandsFor, does}
-use Rattle.std.proofs.Common.{◌⊎◌, inl, inr, codes, unwrap_or}
-use Rattle.std.proofs.lemmas.List.{set-get_or}
-use Rattle.std.proofs.lemmas.Option.{unwrap_or-slice_get}
+use Rattle.pr_world.proofs.Common.{◌≡◌, ℕ, zero, suc, ◌<◌, Bool, true, false, List, [], ◌∷◌, length, if◌then◌else◌, slice_get, slice_set, Some, None, Option, sym, refl, ap, ◌∙◌, subst, arith, option_map_or, false≢true, Command, UnitState, Stmts, Standing, ready, stopped, how_now, Task, Scripted, Planned, role, task, Scenario, Schedule, plan, next_of, is_passed_over, TurnAs, Turn, Control, Going, Trapped, Free, standing_of, control, How, Item, Clause, is_free, is_planned, Participation, schedule_by, StandsFor, does}
+use Rattle.std.proofs.Common.{◌⊎◌, inl, inr, codes}
+use Rattle.std.proofs.lemmas.Option.{none-some, same_Some}
 use Rattle.pr_roles.specs.declared.how.How.TheVariants as how
-use Rattle.pr_roles.specs.Schedules.{is_held_back}
+use Rattle.pr_roles.specs.Schedules.{is_held_back, passes_over}
+use Rattle.pr_roles.specs.Schedules as turn
+use Rattle.pr_roles.proofs.lemmas.Schedules.NextCommands.{next_is, passes_by, nothing_next}
 use Rattle.pr_world.specs.StepAnswers.{IsStopped, IsStoppedBy, PassesOver}
 use Rattle.pr_world.specs.inside.Turns.{Doing, sends, stops, is_trapped, is_done, passes, host_does, does_as}
 use Rattle.pr_world.proofs.lemmas.Participations.Others.{control_at, has_task}
@@ -97,49 +98,46 @@ means wanted s x h d has is = subst (λ d. Means (how_now s x.world.history h wa
 
 -- ---- what its turn comes to
 
-schedule_same : (x y : Schedule) → y.world ≡ x.world → y.plans ≡ x.plans → y ≡ x
-schedule_same x y world plans i = record { world = world i; plans = plans i }
-
 pub stopped_is : (s : Scenario) (x : Schedule) (h : ℕ) (word : List ℕ) → HostStands s x h (stopped word) → IsStopped s x h word
 stopped_is s x h word host = subst (λ t. IsStoppedBy t x h word) (sym host.is) host.stands
 
 pub done_is : (s : Scenario) (x : Schedule) (h : ℕ) → GuestHas s x h [] → IsStopped s x h (codes "end")
 done_is s x h guest = subst (λ t. IsStoppedBy t x h (codes "end")) (sym guest.is) (guest.has, refl)
 
-pub stopped_rests : (wanted : How) (s : Scenario) (x y : Schedule) (h : ℕ) (standing : Standing) → HostStands s x h standing → Turn s x h wanted y → y.world ≡ x.world → y ≡ x
-stopped_rests wanted s x y h standing host turn same =
-    let turned : TurnBy (Some (Scripted host.script host.budget)) s x h (how_now s x.world.history h wanted) y = subst (λ t. TurnBy t s x h (how_now s x.world.history h wanted) y) host.is turn in
-    schedule_same x y same turned.1
+pub stopped_rests : (wanted : How) (s : Scenario) (x y : Schedule) (h : ℕ) (word : List ℕ) → HostStands s x h (stopped word) → Turn s x h wanted y → y ≡ x
+stopped_rests wanted s x y h word host turn = nothing_next s x h (how_now s x.world.history h wanted) y (next_is s x h _ _ _ host.is host.stands refl) turn
 
--- the plan of a guest with nothing left stays as it is
-no_plan : (plans : List (List Command)) (h : ℕ) → option_map_or (λ p. p) (slice_get plans h) [] ≡ [] → slice_set plans h [] ≡ plans
-no_plan plans h none =
-    let here : get_or plans h [] ≡ [] = sym (by (slice_get plans h) ∙ unwrap_or-slice_get plans h []) ∙ none in
-    ap (slice_set plans h) (sym here) ∙ set-get_or plans h []
-  where
-    by : (o : Option (List Command)) → option_map_or (λ p. p) o [] ≡ unwrap_or o []
-    by None = refl
-    by (Some p) = refl
-
-pub done_rests : (wanted : How) (s : Scenario) (x y : Schedule) (h : ℕ) → GuestHas s x h [] → Turn s x h wanted y → y.world ≡ x.world → y ≡ x
-done_rests wanted s x y h guest turn same =
-    let turned : TurnBy (Some (Planned guest.commands)) s x h (how_now s x.world.history h wanted) y = subst (λ t. TurnBy t s x h (how_now s x.world.history h wanted) y) guest.is turn in
-    let left : turned.0 ≡ [] = (subst (λ planned. GuestTurn (role s h) planned x.world h (how_now s x.world.history h wanted) y.world turned.0) guest.has turned.1).1 in
-    schedule_same x y same (turned.2 ∙ (ap (slice_set x.plans h) left ∙ no_plan x.plans h guest.has))
+pub done_rests : (wanted : How) (s : Scenario) (x y : Schedule) (h : ℕ) → GuestHas s x h [] → Turn s x h wanted y → y ≡ x
+done_rests wanted s x y h guest turn = nothing_next s x h (how_now s x.world.history h wanted) y (next_is s x h _ _ _ guest.is refl guest.has) turn
 
 -- just what the unit would answer is passed over
 held_back : (so : How) (clauses : List Clause) (u : UnitState) (h : ℕ) (c : Command) → is_passed_over so clauses u h c ≡ true → is_held_back clauses u h c ≡ true
 held_back how.Plain clauses u h c is = is
 held_back _ clauses u h c is = absurd (false≢true is)
 
-pub passed_over : (wanted : How) (s : Scenario) (x y : Schedule) (h : ℕ) → GuestIsReady (how_now s x.world.history h wanted) s x h true → Turn s x h wanted y → y.world ≡ x.world → PassesOver s x h y
-passed_over wanted s x y h guest turn same =
-    let turned : TurnBy (Some (Planned guest.guest.commands)) s x h (how_now s x.world.history h wanted) y = subst (λ t. TurnBy t s x h (how_now s x.world.history h wanted) y) guest.guest.is turn in
-    let left : turned.0 ≡ guest.left = (subst (λ planned. GuestTurn (role s h) planned x.world h (how_now s x.world.history h wanted) y.world turned.0) guest.guest.has turned.1).1 in
-    record {
-      command = guest.command;
-      left = guest.left;
-      next = guest.guest.has;
-      held = held_back (how_now s x.world.history h wanted) (role s h) x.world.unit h guest.command guest.held;
-      after = schedule_same (record { world = x.world; plans = slice_set x.plans h guest.left }) y same (turned.2 ∙ ap (slice_set x.plans h) left);
-    }
+passed_by : (so : How) (s : Scenario) (x y : Schedule) (h : ℕ) → GuestIsReady so s x h true → TurnAs s x h so y → PassesOver s x h y
+passed_by so s x y h guest turned = at turned
+  where
+    comes : next_of s x h ≡ Some (0, guest.command, guest.left)
+    comes = next_is s x h _ _ _ guest.guest.is refl guest.guest.has
+
+    over : passes_over s x h so guest.command ≡ true
+    over = passes_by s x h so guest.command _ guest.guest.is ∙ guest.held
+
+    at : TurnAs s x h so y → PassesOver s x h y
+    at (turn.rests none same) = absurd (none-some _ (sym none ∙ comes))
+    at (turn.sends line c left is free sent plans) =
+        let one : (0, guest.command, guest.left) ≡ (line, c, left) = same_Some _ _ (sym comes ∙ is) in
+        absurd (false≢true (sym free ∙ (sym (ap (λ n. passes_over s x h so n.1) one) ∙ over)))
+    at (turn.passes line c left is held after) =
+        let one : (0, guest.command, guest.left) ≡ (line, c, left) = same_Some _ _ (sym comes ∙ is) in
+        record {
+          command = guest.command;
+          left = guest.left;
+          next = guest.guest.has;
+          held = held_back so (role s h) x.world.unit h guest.command guest.held;
+          after = after ∙ sym (ap (λ n. record { world = x.world; plans = slice_set x.plans h n.2 }) one);
+        }
+
+pub passed_over : (wanted : How) (s : Scenario) (x y : Schedule) (h : ℕ) → GuestIsReady (how_now s x.world.history h wanted) s x h true → Turn s x h wanted y → PassesOver s x h y
+passed_over wanted s x y h guest turned = passed_by (how_now s x.world.history h wanted) s x y h guest turned

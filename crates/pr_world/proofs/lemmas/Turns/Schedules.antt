@@ -1,8 +1,9 @@
 -- What one nexus does makes the turn of the schedule.
-use Rattle.pr_world.proofs.Common.{◌≡◌, ℕ, ◌<◌, Bool, true, false, List, [], ◌∷◌, ◌++◌, map, length, get_or, IsTrue, slice_get, slice_set, Some, None, vec_len, Option, option_map, sym, refl, ap, ◌∙◌, subst, append-nil, arith, option_map_or, get_or-map, map-set_same, length-map, map-set, slice_get-map, slice_get-get_or, Command, Reply, UnitState, Standing, ready, stopped, how_now, Task, Scripted, Planned, role, Scenario, nexus, scenario_of, plan, is_passed_over, GuestTurn, TurnBy, Turn, Control, Going, Trapped, Free, standing_of, control_after, control, is_trapped, Entry, How, Item, Sent, Parts, Clause, is_free, is_planned, ending, Participant, Participation, participation_of, schedule_by, HappensBy, StandsFor, does}
+use Rattle.pr_world.proofs.Common.{◌≡◌, ℕ, ◌<◌, Bool, true, false, List, [], ◌∷◌, ◌++◌, map, length, get_or, IsTrue, slice_get, slice_set, Some, None, vec_len, Option, option_map, sym, refl, ap, ◌∙◌, subst, append-nil, arith, option_map_or, get_or-map, map-set_same, length-map, map-set, slice_get-map, slice_get-get_or, Command, Reply, UnitState, Stmts, Standing, ready, stopped, how_now, Task, Scripted, Planned, role, task, Scenario, scenario_of, plan, next_of, is_passed_over, TurnAs, Turn, Control, Going, Trapped, Free, standing_of, control_after, control, is_trapped, Entry, How, Item, Sent, Parts, Clause, is_free, is_planned, ending, Participant, Participation, participation_of, schedule_by, HappensBy, StandsFor, does}
 use Rattle.std.proofs.Common.{Vec, Global}
 use Rattle.pr_roles.specs.declared.parts.Nexus.{Nexus as NexusPart}
-use Rattle.pr_roles.specs.Schedules.{HostTurn, SendsUnless}
+use Rattle.pr_roles.specs.Schedules as turn
+use Rattle.pr_roles.proofs.lemmas.Schedules.NextCommands.{schedule_same, plans_same, next_is, passes_by}
 use Rattle.pr_audit.proofs.lemmas.Auditing.Judgements.{free_taken}
 use Rattle.pr_audit.proofs.lemmas.Auditing.Parts.{role_at}
 use Rattle.pr_world.specs.inside.Participations.{items_of, participation}
@@ -11,67 +12,70 @@ use Rattle.pr_world.proofs.lemmas.Participations.Others.{at_participation, contr
 use Rattle.pr_world.proofs.lemmas.Turns.Events.{happens_at_participation}
 use Rattle.pr_world.specs.declared.act.Act.{Act}
 use Rattle.pr_world.specs.declared.act.Act.TheVariants as act
-use Rattle.pr_world.specs.inside.Turns.{Acts, ActsAs, GuestActs, HostActs, SendsOr, Doing, sends as sending, doing_of, entry_in, does_as}
+use Rattle.pr_world.specs.inside.Turns.{Acts, ActsAs, Rests, GuestActs, HostActs, SendsOr, Doing, sends as sending, doing_of, entry_in, does_as}
+
+-- ---- nothing is sent
+
+nothing_sent : (so : How) (s : Scenario) (u v : UnitState) (xs : List Participation) (es : List Item) (h : ℕ) (x y : Participation) → get_or xs h x ≡ x → next_of s (schedule_by u xs es) h ≡ None → Rests u x y v
+    → TurnAs s (schedule_by u xs es) h so (schedule_by v (with_participation xs h y) (es ++ []))
+nothing_sent so s u v xs es h x y at none acts =
+    turn.rests none (schedule_same _ _ (rests u v xs es h x y at (ap (λ s. s.control) acts.0) acts.1) (map-set_same (λ s. s.plan) xs h y x (ap (λ s. s.plan) (acts.0 ∙ sym at))))
 
 -- ---- hosts
 
-host_turn : (so : How) (o : Option Standing) (u v : UnitState) (xs : List Participation) (es : List Item) (h : ℕ) (e : Option Entry) (x y : Participation) → h < length xs → get_or xs h x ≡ x
-    → HostActs so o h x u e y v → HostTurn o (world_by u xs es) h so (world_by v (with_participation xs h y) (es ++ items_of e)) × (map (λ s. s.plan) (with_participation xs h y) ≡ map (λ s. s.plan) xs)
-host_turn so (Some (ready line c)) u v xs es h (Some e) x y there at acts = (
-  sends so u v xs es h line c e x y (at_participation xs h x there at) acts.0 (ap (λ s. s.control) acts.1),
-  map-set_same (λ s. s.plan) xs h y x (ap (λ s. s.plan) acts.1 ∙ ap (λ s. s.plan) (sym at)),
-)
-host_turn so (Some (stopped w)) u v xs es h None x y there at acts =
-    (rests u v xs es h x y at (ap (λ s. s.control) acts.0) acts.1, map-set_same (λ s. s.plan) xs h y x (ap (λ s. s.plan) (acts.0 ∙ sym at)))
-host_turn so None u v xs es h None x y there at acts =
-    (rests u v xs es h x y at (ap (λ s. s.control) acts.0) acts.1, map-set_same (λ s. s.plan) xs h y x (ap (λ s. s.plan) (acts.0 ∙ sym at)))
-host_turn so _ u v xs es h _ x y there at acts = absurd acts
+host_turn : (so : How) (s : Scenario) (script : Stmts) (budget : ℕ) (o : Option Standing) (u v : UnitState) (xs : List Participation) (es : List Item) (h : ℕ) (e : Option Entry) (x y : Participation) → task s h ≡ Some (Scripted script budget)
+    → slice_get xs h ≡ Some x → get_or xs h x ≡ x → standing_of x.control ≡ o → HostActs so o h x u e y v → TurnAs s (schedule_by u xs es) h so (schedule_by v (with_participation xs h y) (es ++ items_of e))
+host_turn so s script budget (Some (ready line c)) u v xs es h (Some e) x y is here at stands acts =
+    turn.sends line c (plan (schedule_by u xs es) h) (next_is s (schedule_by u xs es) h _ _ _ is (ap standing_of (control_at u xs es h x here) ∙ stands) refl) (passes_by s (schedule_by u xs es) h so c _ is)
+    (sends so u v xs es h line c e x y here acts.0 (ap (λ s. s.control) acts.1))
+    (map-set_same (λ s. s.plan) xs h y x (ap (λ s. s.plan) acts.1 ∙ ap (λ s. s.plan) (sym at)) ∙ sym (plans_same (map (λ s. s.plan) xs) h))
+host_turn so s script budget (Some (stopped w)) u v xs es h None x y is here at stands acts =
+    nothing_sent so s u v xs es h x y at (next_is s (schedule_by u xs es) h _ _ _ is (ap standing_of (control_at u xs es h x here) ∙ stands) refl) acts
+host_turn so s script budget None u v xs es h None x y is here at stands acts =
+    nothing_sent so s u v xs es h x y at (next_is s (schedule_by u xs es) h _ _ _ is (ap standing_of (control_at u xs es h x here) ∙ stands) refl) acts
+host_turn so s script budget _ u v xs es h _ x y is here at stands acts = absurd acts
 
 -- ---- guests
 
-sends_unless : (so : How) (b : Bool) (u v : UnitState) (xs : List Participation) (es : List Item) (h : ℕ) (c : Command) (e : Option Entry) (x y : Participation) → h < length xs → get_or xs h x ≡ x
-    → x.control ≡ Free → y.control ≡ Free → SendsOr so b h u c e v → SendsUnless b (world_by u xs es) h c so (world_by v (with_participation xs h y) (es ++ items_of e))
-sends_unless so true u v xs es h c None x y there at free still acts = rests u v xs es h x y at (still ∙ sym free) acts
-sends_unless so false u v xs es h c (Some e) x y there at free still acts =
-    sends so u v xs es h 0 c e x y (at_participation xs h x there at) acts (still ∙ ap (λ k. control_after 0 k e.reply) (sym free))
-sends_unless so _ u v xs es h c _ x y there at free still acts = absurd acts
+guest_turn : (so : How) (s : Scenario) (commands planned : List Command) (u v : UnitState) (xs : List Participation) (es : List Item) (h : ℕ) (e : Option Entry) (y : Participation) → task s h ≡ Some (Planned commands)
+    → slice_get xs h ≡ Some (participation Free planned) → get_or xs h (participation Free planned) ≡ participation Free planned → GuestActs so (role s h) h planned u e y v
+    → TurnAs s (schedule_by u xs es) h so (schedule_by v (with_participation xs h y) (es ++ items_of e))
+guest_turn so s commands [] u v xs es h (Some e) y is here at acts = absurd acts
+guest_turn so s commands [] u v xs es h None y is here at acts =
+    nothing_sent so s u v xs es h (participation Free []) y at (next_is s (schedule_by u xs es) h _ _ _ is refl (plan_at u xs es h (participation Free []) here)) acts
+guest_turn so s commands (c ∷ cs) u v xs es h e y is here at acts = by (is_passed_over so (role s h) u h c) e refl acts.0
+  where
+    comes : next_of s (schedule_by u xs es) h ≡ Some (0, c, cs)
+    comes = next_is s (schedule_by u xs es) h _ _ _ is refl (plan_at u xs es h (participation Free (c ∷ cs)) here)
 
-guest_turn : (so : How) (clauses : List Clause) (planned : List Command) (u v : UnitState) (xs : List Participation) (es : List Item) (h : ℕ) (e : Option Entry) (x y : Participation) → h < length xs
-    → get_or xs h x ≡ x → x.control ≡ Free → GuestActs so clauses h planned u e y v
-    → GuestTurn clauses planned (world_by u xs es) h so (world_by v (with_participation xs h y) (es ++ items_of e)) y.plan
-guest_turn so clauses [] u v xs es h (Some e) x y there at free acts = absurd acts
-guest_turn so clauses [] u v xs es h None x y there at free acts =
-    (rests u v xs es h x y at (ap (λ s. s.control) acts.0 ∙ sym free) acts.1, ap (λ s. s.plan) acts.0)
-guest_turn so clauses (c ∷ cs) u v xs es h e x y there at free acts =
-    (sends_unless so (is_passed_over so clauses u h c) u v xs es h c e x y there at free (ap (λ s. s.control) acts.1) acts.0, ap (λ s. s.plan) acts.1)
+    plans : map (λ s. s.plan) (with_participation xs h y) ≡ slice_set (map (λ s. s.plan) xs) h cs
+    plans = map-set (λ s. s.plan) xs h y ∙ ap (λ s. slice_set (map (λ s. s.plan) xs) h s.plan) acts.1
+
+    by : (b : Bool) (e : Option Entry) → is_passed_over so (role s h) u h c ≡ b → SendsOr so b h u c e v → TurnAs s (schedule_by u xs es) h so (schedule_by v (with_participation xs h y) (es ++ items_of e))
+    by true None held same =
+        turn.passes 0 c cs comes (passes_by s (schedule_by u xs es) h so c _ is ∙ held)
+        (schedule_same (record { world = world_by u xs es; plans = slice_set (map (λ s. s.plan) xs) h cs }) _ (rests u v xs es h (participation Free (c ∷ cs)) y at (ap (λ s. s.control) acts.1) same) plans)
+    by false (Some e) free sent =
+        turn.sends 0 c cs comes (passes_by s (schedule_by u xs es) h so c _ is ∙ free) (sends so u v xs es h 0 c e (participation Free (c ∷ cs)) y here sent (ap (λ s. s.control) acts.1)) plans
+    by _ _ held bad = absurd bad
 
 -- ---- the turn
 
-turn_by : (so : How) (t : Task) (k : Control) (s : Scenario) (u v : UnitState) (xs : List Participation) (es : List Item) (h : ℕ) (e : Option Entry) (p : List Command) (y : Participation) → h < length xs
-    → get_or xs h (participation k p) ≡ participation k p → is_planned t ≡ is_free k → ActsAs so k (role s h) h (participation k p) u e y v
-    → TurnBy (Some t) s (schedule_by u xs es) h so (schedule_by v (with_participation xs h y) (es ++ items_of e))
-turn_by so (Scripted script budget) Free s u v xs es h e p y there at fits acts = let bad : false ≡ true = fits in cc
-turn_by so (Scripted script budget) (Going l) s u v xs es h e p y there at fits acts =
-    let x = participation (Going l) p in
-    subst (λ k. HostTurn (standing_of k) (world_by u xs es) h so (world_by v (with_participation xs h y) (es ++ items_of e)) × (map (λ s. s.plan) (with_participation xs h y) ≡ map (λ s. s.plan) xs))
-    (sym (control_at u xs es h x (at_participation xs h x there at))) (host_turn so (standing_of (Going l)) u v xs es h e x y there at acts)
-turn_by so (Scripted script budget) (Trapped line) s u v xs es h e p y there at fits acts =
-    let x = participation (Trapped line) p in
-    subst (λ k. HostTurn (standing_of k) (world_by u xs es) h so (world_by v (with_participation xs h y) (es ++ items_of e)) × (map (λ s. s.plan) (with_participation xs h y) ≡ map (λ s. s.plan) xs))
-    (sym (control_at u xs es h x (at_participation xs h x there at))) (host_turn so None u v xs es h e x y there at acts)
-turn_by so (Planned commands) Free s u v xs es h e p y there at fits acts =
-    let x = participation Free p in
-    let turn = subst (λ cs. GuestTurn (role s h) cs (world_by u xs es) h so (world_by v (with_participation xs h y) (es ++ items_of e)) y.plan)
-    (sym (plan_at u xs es h x (at_participation xs h x there at))) (guest_turn so (role s h) p u v xs es h e x y there at refl acts) in
-    (y.plan, turn, map-set (λ s. s.plan) xs h y)
-turn_by so (Planned commands) _ s u v xs es h e p y there at fits acts = let bad : true ≡ false = fits in cc
+turn_by : (so : How) (t : Task) (k : Control) (s : Scenario) (u v : UnitState) (xs : List Participation) (es : List Item) (h : ℕ) (e : Option Entry) (p : List Command) (y : Participation) → task s h ≡ Some t
+    → slice_get xs h ≡ Some (participation k p) → get_or xs h (participation k p) ≡ participation k p → is_planned t ≡ is_free k → ActsAs so k (role s h) h (participation k p) u e y v
+    → TurnAs s (schedule_by u xs es) h so (schedule_by v (with_participation xs h y) (es ++ items_of e))
+turn_by so (Scripted script budget) Free s u v xs es h e p y is here at fits acts = let bad : false ≡ true = fits in cc
+turn_by so (Scripted script budget) (Going l) s u v xs es h e p y is here at fits acts = host_turn so s script budget (standing_of (Going l)) u v xs es h e (participation (Going l) p) y is here at refl acts
+turn_by so (Scripted script budget) (Trapped line) s u v xs es h e p y is here at fits acts = host_turn so s script budget None u v xs es h e (participation (Trapped line) p) y is here at refl acts
+turn_by so (Planned commands) Free s u v xs es h e p y is here at fits acts = guest_turn so s commands p u v xs es h e y is here at acts
+turn_by so (Planned commands) _ s u v xs es h e p y is here at fits acts = let bad : true ≡ false = fits in cc
 
 pub turn_of_seats : (wanted : How) (s : Scenario) (u v : UnitState) (xs : List Participation) (es : List Item) (h : ℕ) (e : Option Entry) (x y : Participation) → StandsFor s u xs → h < length xs
     → get_or xs h x ≡ x → Acts (how_now s es h wanted) (role s h) h x u e y v → Turn s (schedule_by u xs es) h wanted (schedule_by v (with_participation xs h y) (es ++ items_of e))
 turn_of_seats wanted s u v xs es h e x y stands there at acts =
-    let has = has_task s u xs h x stands (at_participation xs h x there at) in
-    subst (λ o. TurnBy (option_map_or (λ n. Some n.task) o None) s (schedule_by u xs es) h (how_now s es h wanted) (schedule_by v (with_participation xs h y) (es ++ items_of e))) (sym has.is)
-    (turn_by (how_now s es h wanted) has.nexus.task x.control s u v xs es h e x.plan y there at has.planned acts)
+    let here = at_participation xs h x there at in
+    let has = has_task s u xs h x stands here in
+    turn_by (how_now s es h wanted) has.nexus.task x.control s u v xs es h e x.plan y (ap (λ o. option_map_or (λ n. Some n.task) o None) has.is) here at has.planned acts
 
 -- ---- who is a guest stays one
 

@@ -1,14 +1,16 @@
 -- What is sent along a scheduled run is within the room for it.
-use Rattle.pr_world.proofs.Common.{◌≡◌, ℕ, suc, ◌+◌, ◌<◌, ◌≤◌, Bool, true, false, List, [], ◌∷◌, ◌++◌, map, length, get_or, if◌then◌else◌, nat_lt, slice_get, slice_set, Some, None, Option, option_map, sym, refl, ap, ◌∙◌, subst, arith, option_map_or, nat_tests, get_or_past, slice_get-map, spelling, Command, Plain, UnitState, Stmts, Standing, ready, how_now, IsSafe, Task, Scripted, Planned, Nexus, role, task, Scenario, nexus, Schedule, plan, is_passed_over, GuestTurn, TurnBy, standing_of, World, control, entry_of, Host, may_reset, world_from, commands_by, Entry, How, Item, Sent, Reset, Clause, Step, IsReached, does}
+use Rattle.pr_world.proofs.Common.{◌≡◌, ℕ, suc, ◌+◌, ◌<◌, ◌≤◌, Bool, true, false, List, [], ◌∷◌, ◌++◌, map, length, get_or, if◌then◌else◌, nat_lt, slice_get, slice_set, Some, None, Option, option_map, sym, refl, ap, ◌∙◌, subst, arith, option_map_or, nat_tests, get_or_past, slice_get-map, spelling, Command, Plain, UnitState, Stmts, ready, how_now, IsSafe, Task, Scripted, Planned, Nexus, task, Scenario, nexus, Schedule, plan, next_of, TurnAs, standing_of, World, control, entry_of, Host, may_reset, world_from, commands_by, Entry, How, Item, Sent, Reset, Step, IsReached, does}
 use Rattle.std.proofs.Common.{◌≢◌, ◌==◌, inl, inr, ◌⊎◌, length-set, unwrap_or}
 use Rattle.std.proofs.lemmas.List.{get_or-set_same, get_or-set_other}
-use Rattle.std.proofs.lemmas.Option.{unwrap_or-slice_get}
+use Rattle.std.proofs.lemmas.Option.{none-some, same_Some, unwrap_or-slice_get}
 use Rattle.pr_unit.proofs.lemmas.Steps.Existence.{every_request_has_a_step}
 use Rattle.pr_roles.specs.declared.how.How.TheVariants as how
 use Rattle.pr_roles.specs.declared.step.Step.TheVariants as step
 use Rattle.pr_roles.specs.Worlds.{HostSends, after, after_reset, resets_in}
 use Rattle.pr_roles.specs.Safety.{KeepsBudgetBy}
-use Rattle.pr_roles.specs.Schedules.{Sends, SendsUnless, HostTurn, Advances, ScheduledRun, plan_of, schedule_from}
+use Rattle.pr_roles.specs.Schedules.{Sends, Advances, ScheduledRun, plan_of, schedule_from}
+use Rattle.pr_roles.specs.Schedules as turn
+use Rattle.pr_roles.proofs.lemmas.Schedules.NextCommands.{next_is}
 use Rattle.pr_roles.proofs.lemmas.Worlds.Resets.{run_within}
 use Rattle.pr_world.specs.inside.Turns.{sends as sending}
 use Rattle.pr_world.specs.Rooms.{room_of, room_by}
@@ -71,13 +73,6 @@ Grows es h fs = (fs ≡ es) ⊎ ((e : Entry) × (e.host ≡ h) × (fs ≡ es ++ 
 sends_grows : (so : How) (w v : World) (h at : ℕ) (c : Command) → Sends w h at c so v → Grows w.history h v.history
 sends_grows so w v h at c sends = inr (entry_of h (spelling c) sends.reply, refl, ap (λ x. x.history) sends.world)
 
-same_grows : (w v : World) (h : ℕ) → v ≡ w → Grows w.history h v.history
-same_grows w v h same = inl (ap (λ x. x.history) same)
-
-host_grows : (so : How) (o : Option Standing) (w v : World) (h : ℕ) → HostTurn o w h so v → Grows w.history h v.history
-host_grows so (Some (ready at c)) w v h turn = sends_grows so w v h at c turn
-host_grows so _ w v h turn = same_grows w v h turn
-
 -- of another as many were sent, and of h at most one more
 grown_other : (es fs : List Item) (h g : ℕ) → g ≢ h → Grows es h fs → commands_by fs g ≡ commands_by es g
 grown_other es fs h g other (inl same) = ap (λ xs. commands_by xs g) same
@@ -101,31 +96,34 @@ others_kept s x y h grows plans own kept g = at (g == h) refl
         let other : g ≢ h = grind (arith, nat_tests) in
         less_kept (task s g) (used y g) (used x g) (omega (arith, grown_other x.world.history y.world.history h g other grows, ap length (plans g other))) (kept g)
 
--- what a guest's turn uses up of its plan is what it sends at most
-guest_used : (so : How) (clauses : List Clause) (planned : List Command) (w v : World) (h : ℕ) (left : List Command) → GuestTurn clauses planned w h so v left
-    → Grows w.history h v.history × (commands_by v.history h + length left ≤ commands_by w.history h + length planned)
-guest_used so clauses [] w v h left turn =
-    (same_grows w v h turn.0, omega (arith, ap (λ x. commands_by x.history h) turn.0, ap length turn.1))
-guest_used so clauses (c ∷ cs) w v h left turn = at (is_passed_over so clauses w.unit h c) turn.0
+-- a guest's next command is taken from its plan
+next_shortens : (s : Scenario) (x : Schedule) (h line : ℕ) (c : Command) (left commands : List Command) → next_of s x h ≡ Some (line, c, left) → task s h ≡ Some (Planned commands) → length (plan x h) ≡ length left + 1
+next_shortens s x h line c left commands comes is = at (plan x h) refl
   where
-    at : (b : Bool) → SendsUnless b w h c so v → Grows w.history h v.history × (commands_by v.history h + length left ≤ commands_by w.history h + length (c ∷ cs))
-    at true same = (same_grows w v h same, omega (arith, ap (λ x. commands_by x.history h) same, ap length turn.1))
-    at false sends =
-        let grows = sends_grows so w v h 0 c sends in
-        (grows, omega (arith, grown_own w.history v.history h grows, ap length turn.1))
+    at : (p : List Command) → plan x h ≡ p → length (plan x h) ≡ length left + 1
+    at [] has = absurd (none-some _ (sym (next_is s x h _ _ _ is refl has) ∙ comes))
+    at (d ∷ ds) has =
+        let one = same_Some {A = ℕ × Command × List Command} (0, d, ds) (line, c, left) (sym (next_is s x h _ _ _ is refl has) ∙ comes) in
+        omega (arith, ap length has, ap {B = ℕ} (λ n. length n.2) one)
 
-turn_kept : (so : How) (s : Scenario) (x y : Schedule) (h : ℕ) (t : Option Task) → task s h ≡ t → TurnBy t s x h so y → KeepsPlans s x → KeepsPlans s y
+-- where the next command of h is sent or passed over, h keeps to its plan
+next_kept : (s : Scenario) (x y : Schedule) (h line : ℕ) (c : Command) (left : List Command) → next_of s x h ≡ Some (line, c, left) → Grows x.world.history h y.world.history → y.plans ≡ slice_set x.plans h left
+    → KeepsPlans s x → KeepsPlans s y
 unfolding KeepsPlans
-turn_kept so s x y h None is turn kept = subst (KeepsPlans s) (sym turn) kept
-turn_kept so s x y h (Some (Scripted script budget)) is turn kept =
-    others_kept s x y h (host_grows so _ x.world y.world h turn.0) (λ g other. ap (λ ps. plan_in ps g) turn.1)
-    (subst (λ t. KeepsPlanBy t (used y h)) (sym is) tt) kept
-turn_kept so s x y h (Some (Planned commands)) is turn kept =
-    let guest = guest_used so (role s h) (plan x h) x.world y.world h turn.0 turn.1 in
-    let few : used x h ≤ length commands = subst (λ t. KeepsPlanBy t (used x h)) is (kept h) in
-    let own : length (plan y h) ≤ length turn.0 = subst (λ ps. length (plan_in ps h) ≤ length turn.0) (sym turn.2) (plan_own x.plans h turn.0) in
-    others_kept s x y h guest.0 (λ g other. ap (λ ps. plan_in ps g) turn.2 ∙ plan_other x.plans h g turn.0 other)
-    (subst (λ t. KeepsPlanBy t (used y h)) (sym is) (omega (arith, guest.1, few, own))) kept
+next_kept s x y h line c left comes grows plans kept =
+    others_kept s x y h grows (λ g other. ap (λ ps. plan_in ps g) plans ∙ plan_other x.plans h g left other) (own (task s h) refl (kept h)) kept
+  where
+    own : (t : Option Task) → task s h ≡ t → KeepsPlanBy t (used x h) → KeepsPlanBy t (used y h)
+    own None is few = absurd (none-some _ (sym (next_is s x h _ _ _ is refl refl) ∙ comes))
+    own (Some (Scripted script budget)) is few = tt
+    own (Some (Planned commands)) is few =
+        let mine : length (plan y h) ≤ length left = subst (λ ps. length (plan_in ps h) ≤ length left) (sym plans) (plan_own x.plans h left) in
+        omega (arith, few, mine, grown_own x.world.history y.world.history h grows, next_shortens s x h line c left commands comes is)
+
+turn_kept : (so : How) (s : Scenario) (x y : Schedule) (h : ℕ) → TurnAs s x h so y → KeepsPlans s x → KeepsPlans s y
+turn_kept so s x y h (turn.sends line c left comes free sent plans) kept = next_kept s x y h line c left comes (sends_grows so x.world y.world h line c sent) plans kept
+turn_kept so s x y h (turn.passes line c left comes held after) kept = next_kept s x y h line c left comes (inl (ap (λ z. z.world.history) after)) (ap (λ z. z.plans) after) kept
+turn_kept so s x y h (turn.rests none same) kept = subst (KeepsPlans s) (sym same) kept
 
 -- a reset counts for nobody, and takes nothing from a plan
 reset_kept : (s : Scenario) (x y : Schedule) (b : Bool) → y ≡ (if b then record x { world = after_reset x.world } else x) → KeepsPlans s x → KeepsPlans s y
@@ -156,7 +154,7 @@ kept_at_first s u g = by (nexus s g) refl
         (less_kept (Some n.task) (used (schedule_from s u) g) (length (plan_of n.task)) (omega (arith, ap length (begins (Some n) is))) (first n.task))
 
 step_kept : (s : Scenario) (x y : Schedule) (next : Step) → Advances s x next y → KeepsPlans s x → KeepsPlans s y
-step_kept s x y (step.Of h wanted) turn kept = turn_kept (how_now s x.world.history h wanted) s x y h (task s h) refl turn kept
+step_kept s x y (step.Of h wanted) turn kept = turn_kept (how_now s x.world.history h wanted) s x y h turn kept
 step_kept s x y step.Reset turn kept = reset_kept s x y (may_reset s x.world.history) turn kept
 
 run_kept : (s : Scenario) (x y : Schedule) (steps : List Step) → ScheduledRun s x steps y → KeepsPlans s x → KeepsPlans s y

@@ -1,4 +1,4 @@
-use Rattle.pr_world.proofs.Common.{◌<◌, List, [], ◌∷◌, ◌++◌, length, sym, ap, subst, scenario_of, Step, IsReached, schedule_of}
+use Rattle.pr_world.proofs.Common.{◌<◌, List, [], ◌∷◌, ◌++◌, length, sym, ap, subst, scenario_of, Turn, Step, IsReached, schedule_of}
 use Rattle.pr_roles.specs.declared.step.Step.TheVariants as step
 use Rattle.pr_world.proofs.lemmas.StepAnswers.Turns.{is_turned, never_trapped, said_done, said_held, said_stopped, step_has_room, still_at_work}
 use Rattle.pr_world.proofs.world.World.step_as.Goals as goal
@@ -14,6 +14,11 @@ unreachable-requires c = never_trapped _ _ _ c.scenario.ensures.safe c.self.inva
 
 pub invariant_of-self : goal.invariant_of-self
 invariant_of-self c = still_at_work _ _ _ _ _ c.scenario.ensures.value c.self.invariant c.turn.ensures.reached c.turn.ensures.stands c.turn.ensures.room
+
+pub returns-clause-turn : goal.returns-clause-turn
+returns-clause-turn c =
+    rw (← c.self.view_is)
+    (subst (λ r. Turn (scenario_of r) (schedule_of c.self.inside.course) c.args.host c.args.how (schedule_of c.turn.new.self)) c.scenario.ensures.value c.turn.ensures.turn)
 
 pub returns-clause-reached : goal.returns-clause-reached
 returns-clause-reached c =
