@@ -1,6 +1,6 @@
 //! The first start of a scenario.
 
-ghost use Rattle.std.specs.Prelude.{◌≡◌, ◌↔◌, ◌<◌, ◌≤◌, ◌^◌, Some, IsSome, IfSome, slice_set, length, is_some, map, option_map, position};
+ghost use Rattle.std.specs.Prelude.{◌≡◌, ◌↔◌, ◌<◌, ◌≤◌, ◌^◌, Some, IsTrue, IsSome, IfSome, slice_set, length, is_some, map, option_map, position};
 ghost use Rattle.std.specs.List.{list_any};
 ghost use Rattle.pr_cdb.specs.declared.codes.TheConstants.{MOST_NEXUSES};
 ghost use Rattle.pr_registry.specs.Registrations.{IsWellFormed, state_from};
@@ -20,6 +20,14 @@ use pr_registry::{Held, Registry};
 pub(crate) type Keys = ArrayVec<Option<u64>, MOST_NEXUSES>;
 
 impl Parts {
+    /// Whether some state is allowed to start from.
+    pub(crate) fn can_start(&self) -> bool
+        requires { Fits (scenario_of self.now) }
+        ensures { IsTrue result ↔ CanStart (scenario_of self.now) }
+    {
+        self.first_registry().is_some()
+    }
+
     /// The registry of the first start: `None` where no state is allowed.
     pub(crate) fn first_registry(&self) -> Option<Registry>
         requires { Fits (scenario_of self.now) }

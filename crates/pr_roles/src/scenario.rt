@@ -41,10 +41,23 @@ impl Scenario {
         ensures returned { IfErr result (λ back. back ≡ parts) }
         ensures exactly { IsOk result ↔ CanStart (scenario_of parts) }
     {
-        if parts.first_registry().is_none() {
-            return Err(parts);
+        let can_start = parts.can_start();
+        Scenario::starting(parts, can_start)
+    }
+
+    // The scenario with these parts where it can start, or the parts again.
+    fn starting(parts: Parts, can_start: bool) -> Result<Self, Parts>
+        requires fits { Fits (scenario_of parts) }
+        requires told { IsTrue can_start ↔ CanStart (scenario_of parts) }
+        ensures kept { IfOk result (λ scenario. scenario ≡ parts) }
+        ensures returned { IfErr result (λ back. back ≡ parts) }
+        ensures exactly { IsOk result ↔ CanStart (scenario_of parts) }
+    {
+        if can_start {
+            Ok(Scenario { parts })
+        } else {
+            Err(parts)
         }
-        Ok(Scenario { parts })
     }
 
     /// An equal one.
