@@ -74,7 +74,8 @@ abbrev pub becomes_often : ℕ → Configuration → Configuration
 becomes_often zero l = l
 becomes_often (suc n) l = becomes_often n (becomes l)
 
--- unfolded until it is ready or stopped
+-- Unfolded until it is ready or stopped. That `work` counts enough for that is a law (`Settles` in `Laws`): what is settled becomes
+-- nothing else, and it is ready or stopped.
 unfoldable pub settled_form : Configuration → Configuration
 settled_form l = becomes_often (work l) l
 
