@@ -1,7 +1,9 @@
 //! Times verdicts of the proved program beside a replay of one step of the same text, which reads the text and makes
 //! the scenario: a family of clusters of 2 to 16 nodes, and scenarios at the limits of the language. Of the longest of
-//! these it times verdicts with one thread beside those with a thread for each host, by a program that repeats them.
+//! these it times verdicts with one thread beside those with a thread for each host, by a program that repeats them. With the
+//! words `texts FOLDER` it only writes the texts, for `bench/check/count`.
 
+use std::collections::HashSet;
 use std::fs::{self, File};
 use std::process::{Command, Stdio};
 use std::thread;
@@ -139,6 +141,88 @@ fn command(host: usize, round: usize) -> String {
     }
 }
 
+/// The dearest texts that were found by climbing: one host with a script, and all others guests with the largest roles.
+///
+/// Its outer `repeat` registers its own key anew, in the reverse order of the keys, so that each round lets it have one key more. A
+/// guest that may preempt that key then makes one more reservation possible, and each send of the long arm has to be looked at
+/// again. There the host's keys walk through as many sets of six as there are sends, so that no view is met twice.
+fn dearest(hosts: usize) -> (String, usize) {
+    let names = &NAMES[..hosts];
+    let mut text = format!("{}keys 1 2 3 4 5 6 7 8 9 a b c\nhost a\n", first_line(hosts));
+    for name in &names[1..] {
+        text += &format!("guest {name}\n");
+    }
+    for name in names {
+        text += &format!("start {name} 1\n");
+    }
+    text += "reservation 5:a\nrole a write\n";
+    for (guest, name) in names.iter().enumerate().skip(1) {
+        text += &format!("role {name} preempt {} 3\n", twelfth(guest.min(10)));
+        let mut clauses = Vec::new();
+        for action in ["preempt c", "reserve"] {
+            for kind in [1, 3, 5, 6, 7, 8] {
+                for condition in ["", " if registered", " if reserved"] {
+                    clauses.push(format!("role {name} {action} {kind}{condition}\n"));
+                }
+            }
+        }
+        text += &clauses[..31].concat();
+    }
+    text += "script a budget 4096\nrepeat 2\n";
+    for place in (0..11).rev() {
+        text += &reregister(place, place + 1);
+    }
+    text += "send read 0 8\non good\non attention\non conflict\n";
+    for place in [0, 1, 2, 3, 4, 5] {
+        text += &format!("send --out --register-ignore --param-sark={}\non good\non attention\ndone\n", twelfth(place));
+    }
+    let walked = walk(490);
+    for (from, to) in &walked {
+        text += &reregister(*from, *to);
+    }
+    text += "stop told\ndone\ndone\nend\n";
+    for name in &names[1..] {
+        text += &format!("plan {name}\nend\n");
+    }
+    (text, 11 + 1 + 6 + walked.len())
+}
+
+/// A send by which the host's key becomes another, if it has this one.
+fn reregister(from: usize, to: usize) -> String {
+    let (from, to) = (twelfth(from), twelfth(to));
+    format!("send --out --register --param-rk={from} --param-sark={to}\non good\non conflict\ndone\n")
+}
+
+/// Steps through sets of six of twelve keys, each of which has one key in place of another and was not met before, as long as
+/// there is such a one.
+fn walk(steps: usize) -> Vec<(usize, usize)> {
+    let mut keys: u16 = 0b11_1111;
+    let (mut met, mut walked) = (HashSet::from([keys]), Vec::new());
+    while walked.len() < steps {
+        let pairs = (0..144).map(|pair| ((pair * 7 + walked.len() * 5) % 12, (pair * 5 / 12 + walked.len()) % 12));
+        let fitting = pairs.filter(|(from, to)| keys >> from & 1 == 1 && keys >> to & 1 == 0);
+        let after = |(from, to): (usize, usize)| keys & !(1 << from) | 1 << to;
+        let Some(step) = fitting.clone().find(|step| !met.contains(&after(*step))) else {
+            break;
+        };
+        keys = after(step);
+        met.insert(keys);
+        walked.push(step);
+    }
+    walked
+}
+
+/// The texts whose instructions are counted, by name.
+fn counted() -> Vec<(String, String)> {
+    let mut texts: Vec<_> = (2..=16).map(|nodes| (format!("{nodes}-nodes"), cluster(nodes))).collect();
+    for hosts in [8, 16] {
+        texts.push((format!("{hosts}-free"), limits(hosts, LONGEST, false).0));
+        texts.push((format!("{hosts}-every-alternative"), limits(hosts, LONGEST, true).0));
+        texts.push((format!("{hosts}-dearest"), dearest(hosts).0));
+    }
+    texts
+}
+
 /// What the least of some runs took, and the most memory of any.
 struct Cost {
     least: Duration,
@@ -214,6 +298,12 @@ fn side_by_side(program: &str, file: &str, what: &str, text: &str) {
 
 fn main() {
     let words: Vec<String> = std::env::args().collect();
+    if words[1] == "texts" {
+        for (name, text) in counted() {
+            fs::write(format!("{}/{name}", words[2]), text).expect("a scenario");
+        }
+        return;
+    }
     let (fence, file, repeating) = (&words[1], format!("{}/scenario", words[2]), &words[3]);
     for nodes in 2..=16 {
         compare(fence, &file, &format!("{nodes} nodes"), &cluster(nodes));
@@ -227,6 +317,10 @@ fn main() {
     for (alternatives, start) in [(false, "free"), (true, "with every alternative")] {
         let (text, sends) = limits(16, LONGEST, alternatives);
         compare(fence, &file, &format!("16 hosts that start {start}, {sends} sends"), &text);
+    }
+    for hosts in [8, 16] {
+        let (text, sends) = dearest(hosts);
+        compare(fence, &file, &format!("the dearest of {hosts} nexuses, {sends} sends"), &text);
     }
     for (alternatives, start) in [(false, "free"), (true, "with every alternative")] {
         let (text, sends) = limits(8, LONGEST, alternatives);
