@@ -7,11 +7,12 @@ ghost use Rattle.pr_script.specs.declared.limits.TheConstants.{MOST_ARMS};
 ghost use Rattle.pr_roles.specs.declared.limits.TheConstants.{MOST_KEYS};
 ghost use Rattle.pr_sets.specs.Numbers.{most};
 ghost use Rattle.pr_sets.specs.Wides.{has_wide};
+ghost use Rattle.pr_views.specs.declared.view.TheConstants.{MOST_REGISTRATIONS};
 ghost use Rattle.pr_views.specs.Possibilities.{key_at};
-ghost use Rattle.pr_regions.specs.Purposes.{HasNumber};
-ghost use Rattle.pr_regions.specs.Regions.{HasRoom};
+ghost use Rattle.pr_regions.specs.Purposes.{HasNumber, is_refused};
+ghost use Rattle.pr_regions.specs.Regions.{HasRoom, standing_of};
 ghost use Rattle.pr_domain.specs.inside.Tallies.{AddsBranch, AddsBranches, AddsAccepted, AddsRefused, AddsReading, AddsReadings, AreTallied, way_of};
-ghost use Rattle.pr_domain.specs.inside.TestedCommands.{AddsRegistration, AddsPlace, AddsReservation, IsTallyOf};
+ghost use Rattle.pr_domain.specs.inside.TestedCommands.{AddsAlike, AddsPlace, AddsReservation, AreAlike, IsTallyOf};
 
 use crate::arms::first_arm;
 use crate::landing::Class;
@@ -21,8 +22,8 @@ use crate::twins::twin_of;
 use pr_cdb::Command;
 use pr_cdb::codes::MOST_NEXUSES;
 use pr_regions::{
-    Branch, Ending, Place, Purpose, Reading, Region, branches, change_to_reservation, is_refused,
-    purpose_of, readings, registrations_after, standing_of,
+    Branch, Ending, Place, Purpose, Reading, Region, Standing, branches, change_to_reservation,
+    is_refused, purpose_of, readings, registrations_after, standing_of,
 };
 use pr_script::limits::MOST_ARMS;
 use pr_sets::{BitSet, Wide};
@@ -97,35 +98,27 @@ fn add_branches(
     }
 }
 
-// Adds the states in which the sender has this registration and the command's reservation key is accepted from it.
+// Adds the states in which the sender has one of these registrations, stands so by each, and the command's reservation key is
+// accepted from it.
 fn add_accepted(
     tally: &mut Tally,
     view: &Possibilities,
     place: Place,
     purpose: Purpose,
     arm: ArmNumber,
-    registration: u8,
+    senders: BitSet,
+    standing: Standing,
 )
     requires number { HasNumber purpose }
-    requires registration { registration ≤ MOST_KEYS }
-    ensures { AddsAccepted view.now place purpose arm.number registration tally.old tally.new }
+    ensures { AddsAccepted view.now place purpose arm.number senders standing tally.old tally.new }
 {
-    let standing = standing_of(purpose, registration);
     let branches = branches(place.hosts, purpose, place.held, place.sender, standing);
-    add_branches(
-        tally,
-        view,
-        place,
-        BitSet::only(registration),
-        &branches,
-        arm,
-    );
+    add_branches(tally, view, place, senders, &branches, arm);
 }
 
 // Adds those in which its reservation key is not accepted.
-fn add_refused(tally: &mut Tally, view: &Possibilities, place: Place, registration: u8)
-    requires registration { registration ≤ MOST_KEYS }
-    ensures { AddsRefused view.now place registration tally.old tally.new }
+fn add_refused(tally: &mut Tally, view: &Possibilities, place: Place, senders: BitSet)
+    ensures { AddsRefused view.now place senders tally.old tally.new }
 {
     let anything = BitSet::below(MOST_REGISTRATIONS);
     let region = Region {
@@ -138,14 +131,7 @@ fn add_refused(tally: &mut Tally, view: &Possibilities, place: Place, registrati
         ending: Ending::Conflict,
     };
     let none = ArmNumber { number: 0 };
-    add_branch(
-        tally,
-        view,
-        place,
-        BitSet::only(registration),
-        &branch,
-        none,
-    );
+    add_branch(tally, view, place, senders, &branch, none);
 }
 
 // The number of this arm, of at most 16.
@@ -236,19 +222,21 @@ fn is_reading(command: Command) -> bool
     )
 }
 
-// Adds the states in which the sender has this registration.
-fn add_registration(
+// Adds the states in which the sender has one of the registrations that are alike to this one.
+fn add_alike(
     tally: &mut Tally,
     view: &Possibilities,
     place: Place,
     asked: &TestedCommand,
     registration: u8,
+    alike: BitSet,
 )
     requires registration { registration ≤ length asked.now.keys.now }
-    ensures { AddsRegistration view.now place asked.now registration tally.old tally.new }
+    requires alike { AreAlike asked.now registration alike }
+    ensures { AddsAlike view.now place asked.now alike tally.old tally.new }
 {
     if is_refused(key_at(asked.keys, registration), asked.command) {
-        add_refused(tally, view, place, registration);
+        add_refused(tally, view, place, alike);
     } else if is_reading(asked.command) {
         let readings = readings(
             asked.tests,
@@ -260,16 +248,50 @@ fn add_registration(
         );
         add_readings(tally, view, place, registration, &readings);
     } else {
+        let purpose = purpose_of(asked.command, asked.keys);
+        let standing = standing_of(purpose, registration);
         let arm = way_of(first_arm(asked.tests, Class::Good));
-        add_accepted(
-            tally,
-            view,
-            place,
-            purpose_of(asked.command, asked.keys),
-            arm,
-            registration,
-        );
+        add_accepted(tally, view, place, purpose, arm, alike, standing);
     }
+}
+
+// Whether this one is left, is refused or not, and stands so to the purpose.
+fn is_left_so(
+    asked: &TestedCommand,
+    left: BitSet,
+    registration: u8,
+    refused: bool,
+    purpose: Purpose,
+    standing: Standing,
+) -> bool
+    requires { registration < MOST_REGISTRATIONS }
+    ensures refused { IsTrue result → is_refused (key_at asked.now.keys.now registration)
+        asked.now.command ≡ refused }
+    ensures stands { IsTrue result → standing_of purpose registration ≡ standing }
+{
+    left.has(registration)
+        && standing_of(purpose, registration) == standing
+        && is_refused(key_at(asked.keys, registration), asked.command) == refused
+}
+
+// Of the registrations that are left those that are alike to this one, so that one look at a reservation serves all of them.
+fn alike_to(asked: &TestedCommand, left: BitSet, registration: u8) -> BitSet
+    requires registration { registration ≤ length asked.now.keys.now }
+    ensures { AreAlike asked.now registration result }
+{
+    let mut alike = BitSet::only(registration);
+    if is_reading(asked.command) {
+        return alike;
+    }
+    let refused = is_refused(key_at(asked.keys, registration), asked.command);
+    let purpose = purpose_of(asked.command, asked.keys);
+    let standing = standing_of(purpose, registration);
+    for other in 0..MOST_REGISTRATIONS {
+        if is_left_so(asked, left, other, refused, purpose, standing) {
+            alike = alike.with(other);
+        }
+    }
+    alike
 }
 
 // Adds the states under one reservation.
@@ -278,10 +300,14 @@ fn add_place(tally: &mut Tally, view: &Possibilities, place: Place, asked: &Test
 {
     let registrations = asked.keys.len() as u8 + 1;
     let possible = view.registrations[usize::from(place.sender)];
+    let mut done = BitSet::none();
     let mut registration = 0;
     while registration < registrations {
-        if possible.has(registration) {
-            add_registration(tally, view, place, asked, registration);
+        let left = possible.except(done);
+        if left.has(registration) {
+            let alike = alike_to(asked, left, registration);
+            add_alike(tally, view, place, asked, registration, alike);
+            done = done.or(alike);
         }
         registration += 1;
     }

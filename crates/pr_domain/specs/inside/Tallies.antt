@@ -10,6 +10,7 @@ use Rattle.pr_unit.specs.Faults.{command_fault}
 use Rattle.pr_unit.specs.Replies.{good, data_of}
 use Rattle.pr_script.specs.declared.script.Test.{Test}
 use Rattle.pr_script.specs.Grammar.{is_read_keys, is_read_reservation}
+use Rattle.pr_sets.specs.BitSets.{has}
 use Rattle.pr_sets.specs.Wides.{has_wide}
 use Rattle.pr_views.specs.declared.possibilities.Possibilities.{Possibilities}
 use Rattle.pr_views.specs.Possibilities.{key_at, Scope, Item, Registration, Reservation, Attentions, IsSo}
@@ -26,8 +27,9 @@ use Rattle.pr_regions.specs.Transitions.{Does, never}
 use Rattle.pr_registry.specs.Registrations.{State}
 use Rattle.pr_script.specs.declared.limits.TheConstants.{MOST_ARMS}
 use Rattle.pr_regions.specs.declared.purpose.Purpose.{Purpose}
+use Rattle.pr_regions.specs.declared.purpose.Standing.{Standing}
 use Rattle.pr_regions.specs.Purposes.{purpose_of, is_refused}
-use Rattle.pr_regions.specs.Regions.{Ends, IsInRegion, IsUntestedOrRegistered}
+use Rattle.pr_regions.specs.Regions.{Ends, IsInRegion, IsUntestedOrRegistered, standing_of}
 use Rattle.pr_regions.specs.declared.place.Place.{Place}
 use Rattle.pr_domain.specs.declared.tally.Tally.{Tally}
 use Rattle.pr_regions.specs.Gathering.{IsPlace, IsUniform, IsProper, IsAt}
@@ -127,6 +129,13 @@ pub record HasFirst (s : Scope) (place : Place) (n : ℕ) (u : UnitState) : Type
   pub reserved : IsSo s u (Reservation place.reservation)
   pub registered : IsSo s u (Registration place.sender registration)
 
+-- the reservation of the place stands, and its sender has one of these registrations
+pub record HasOneOf (s : Scope) (place : Place) (senders : BitSet) (u : UnitState) : Type 0 where
+  pub registration : ℕ
+  pub among : has senders registration ≡ true
+  pub reserved : IsSo s u (Reservation place.reservation)
+  pub registered : IsSo s u (Registration place.sender registration)
+
 -- the reservation of the place stands, and its sender has this registration
 pub record HasBoth (s : Scope) (place : Place) (r : ℕ) (u : UnitState) : Type 0 where
   pub reserved : IsSo s u (Reservation place.reservation)
@@ -138,22 +147,25 @@ pub record IsReserved (s : Scope) (n : ℕ) (u : UnitState) : Type 0 where
   pub below : reservation < n
   pub reserved : IsSo s u (Reservation reservation)
 
--- ---- one registration of the sender
+-- ---- registrations of the sender that are alike
 
--- What is known of the command at a place where the sender has registration r, and its reservation key is accepted:
--- its purpose, and the arm that takes the data where it ends GOOD.
-pub record IsAsked (s : Scope) (c : Command) (tests : List Test) (view : Possibilities) (place : Place) (purpose : Purpose) (arm r : ℕ) : Type 0 where
+-- What is known of the command at a place where the sender has one of these registrations, and its reservation key is accepted:
+-- its purpose, how the sender stands to it, and the arm that takes the data where it ends GOOD.
+pub record IsAsked (s : Scope) (c : Command) (tests : List Test) (view : Possibilities) (place : Place) (purpose : Purpose) (arm : ℕ) (senders : BitSet) (standing : Standing) : Type 0 where
   pub own : place.sender ≡ s.own
   pub is : IsPlace s view place
+  pub uniform : IsUniform senders
   pub asks : purpose_of s.keys c ≡ Some purpose
-  pub accepted : is_refused (key_at s.keys r) c ≡ false
+  pub stands : (r : ℕ) → has senders r ≡ true → standing_of purpose r ≡ standing
+  pub accepted : (r : ℕ) → has senders r ≡ true → is_refused (key_at s.keys r) c ≡ false
   pub taken : (u : State) → first_test tests (good (data_of u c)) ≡ arm_of arm
 
--- The reservation key of the command is not accepted from a sender with registration r.
-pub record IsRefusedAt (s : Scope) (c : Command) (view : Possibilities) (place : Place) (r : ℕ) : Type 0 where
+-- The reservation key of the command is not accepted from a sender with one of these registrations.
+pub record IsRefusedAt (s : Scope) (c : Command) (view : Possibilities) (place : Place) (senders : BitSet) : Type 0 where
   pub own : place.sender ≡ s.own
   pub is : IsPlace s view place
-  pub refused : is_refused (key_at s.keys r) c ≡ true
+  pub uniform : IsUniform senders
+  pub refused : (r : ℕ) → has senders r ≡ true → is_refused (key_at s.keys r) c ≡ true
 
 -- ---- one reservation
 
@@ -217,15 +229,15 @@ AddsBranches view place senders branches arm old new =
     (s : Scope) (c : Command) (tests : List Test) → AreRight s c tests view place senders branches arm
     → Grows (view_in s view) c tests old new (IsInOne (view_in s view) place senders branches (length branches))
 
--- where the reservation key is accepted of this registration, what the shown states leave in which the sender has it
-abbrev pub AddsAccepted : Possibilities → Place → Purpose → ℕ → ℕ → Tally → Tally → Type 0
-AddsAccepted view place purpose arm r old new =
-    (s : Scope) (c : Command) (tests : List Test) → IsAsked s c tests view place purpose arm r → Grows (view_in s view) c tests old new (HasBoth s place r)
+-- where the reservation key is accepted of these registrations, what the shown states leave in which the sender has one of them
+abbrev pub AddsAccepted : Possibilities → Place → Purpose → ℕ → BitSet → Standing → Tally → Tally → Type 0
+AddsAccepted view place purpose arm senders standing old new =
+    (s : Scope) (c : Command) (tests : List Test) → IsAsked s c tests view place purpose arm senders standing → Grows (view_in s view) c tests old new (HasOneOf s place senders)
 
 -- where it is not accepted, what those leave
-abbrev pub AddsRefused : Possibilities → Place → ℕ → Tally → Tally → Type 0
-AddsRefused view place r old new =
-    (s : Scope) (c : Command) (tests : List Test) → IsRefusedAt s c view place r → Grows (view_in s view) c tests old new (HasBoth s place r)
+abbrev pub AddsRefused : Possibilities → Place → BitSet → Tally → Tally → Type 0
+AddsRefused view place senders old new =
+    (s : Scope) (c : Command) (tests : List Test) → IsRefusedAt s c view place senders → Grows (view_in s view) c tests old new (HasOneOf s place senders)
 
 -- where the reading is right, what the shown states of it leave
 abbrev pub AddsReading : Possibilities → Place → ℕ → Reading → Tally → Tally → Type 0

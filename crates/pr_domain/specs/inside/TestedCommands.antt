@@ -1,17 +1,33 @@
 -- What is added to the tally of a command with the tests of its send.
-use Rattle.std.specs.Prelude.{ℕ, ◌+◌, length}
+use Rattle.std.specs.Prelude.{◌≡◌, ℕ, ◌+◌, ◌||◌, true, length, Some}
+use Rattle.pr_script.specs.Grammar.{is_read_keys, is_read_reservation}
+use Rattle.pr_sets.specs.declared.bit_set.BitSet.{BitSet}
+use Rattle.pr_sets.specs.BitSets.{has}
 use Rattle.pr_views.specs.declared.possibilities.Possibilities.{Possibilities}
-use Rattle.pr_views.specs.Possibilities.{Scope}
+use Rattle.pr_views.specs.Possibilities.{Scope, key_at}
 use Rattle.pr_views.specs.Portions.{view_in}
 use Rattle.pr_regions.specs.declared.place.Place.{Place}
+use Rattle.pr_regions.specs.declared.purpose.Purpose.{Purpose}
+use Rattle.pr_regions.specs.Gathering.{IsUniform}
+use Rattle.pr_regions.specs.Purposes.{purpose_of, is_refused}
+use Rattle.pr_regions.specs.Regions.{standing_of}
 use Rattle.pr_domain.specs.declared.tally.Tally.{Tally}
 use Rattle.pr_domain.specs.declared.tested.TestedCommand.{TestedCommand}
-use Rattle.pr_domain.specs.inside.Tallies.{Grows, HasBoth, HasFirst, IsReserved, IsOwners, IsOfScope, IsNothing, IsTally}
+use Rattle.pr_domain.specs.inside.Tallies.{Grows, HasOneOf, HasFirst, IsReserved, IsOwners, IsOfScope, IsNothing, IsTally}
 
--- where the command is of the place's sender, what the shown states leave in which the sender has this registration
-abbrev pub AddsRegistration : Possibilities → Place → TestedCommand → ℕ → Tally → Tally → Type 0
-AddsRegistration view place q r old new =
-    (s : Scope) → IsOwners s q.keys.now view place → Grows (view_in s view) q.command q.tests.now old new (HasBoth s place r)
+-- The registrations are alike to this one, which is one of them: the command is refused of each or of none, and each stands as this
+-- one does to what it is for. A command that reads tells each from the others.
+pub record AreAlike (q : TestedCommand) (registration : ℕ) (alike : BitSet) : Type 0 where
+  pub itself : has alike registration ≡ true
+  pub refused : (r : ℕ) → has alike r ≡ true → is_refused (key_at q.keys.now r) q.command ≡ is_refused (key_at q.keys.now registration) q.command
+  pub stands : (purpose : Purpose) → purpose_of q.keys.now q.command ≡ Some purpose → (r : ℕ) → has alike r ≡ true → standing_of purpose r ≡ standing_of purpose registration
+  pub uniform : IsUniform alike
+  pub read : (is_read_keys q.command || is_read_reservation q.command) ≡ true → (r : ℕ) → has alike r ≡ true → r ≡ registration
+
+-- where the command is of the place's sender, what the shown states leave in which the sender has one of these registrations
+abbrev pub AddsAlike : Possibilities → Place → TestedCommand → BitSet → Tally → Tally → Type 0
+AddsAlike view place q alike old new =
+    (s : Scope) → IsOwners s q.keys.now view place → Grows (view_in s view) q.command q.tests.now old new (HasOneOf s place alike)
 
 -- what those leave in which the reservation of the place stands, and its sender has any registration
 abbrev pub AddsPlace : Possibilities → Place → TestedCommand → Tally → Tally → Type 0

@@ -1,5 +1,5 @@
--- What a sender with one registration asks for, and how that ends.
-use Rattle.pr_domain.proofs.Common.{◌≡◌, ℕ, ◌<◌, Bool, true, false, not, ◌&&◌, List, length, if◌then◌else◌, nat_lt, ◌==◌, Some, None, Contains, Option, option_map, sym, ap, ◌∙◌, subst, arith, false≢true, or_left, nat_tests, slice_get-get_or, has, BitSet, Command, State, key_of, Held, One, command_conflicts, UnitState, Test, view_in, Scope, Registration, IsSo, Shows, Possibilities, one_registration, IsPlace, IsUniform, IsAt, is_refused, standing_of, AreBranches, Place, Branch, Region, same_reservation, IsRight, IsInOne, HasBoth, MOST_REGISTRATIONS}
+-- What a sender with one of some registrations asks for, and how that ends.
+use Rattle.pr_domain.proofs.Common.{◌≡◌, ℕ, zero, suc, ◌<◌, Bool, true, false, not, ◌&&◌, List, length, if◌then◌else◌, nat_lt, ◌==◌, Some, None, Contains, Option, option_map, sym, refl, ap, ◌∙◌, subst, arith, false≢true, or_left, nat_tests, slice_get-get_or, has, BitSet, Command, State, key_of, Held, One, command_conflicts, UnitState, Test, view_in, Scope, Registration, IsSo, Shows, Possibilities, one_registration, IsPlace, IsUniform, IsAt, is_refused, standing_of, AreBranches, Place, Branch, Region, same_reservation, IsRight, IsInOne, MOST_REGISTRATIONS}
 use Rattle.std.proofs.lemmas.Bool.{lt-ltb}
 use Rattle.pr_cdb.specs.declared.command.Command.TheVariants as command
 use Rattle.pr_registry.specs.declared.held.Held.TheVariants.{All as Everybody}
@@ -7,9 +7,14 @@ use Rattle.pr_registry.specs.Hosts.{is_key, has_no_registrant}
 use Rattle.pr_registry.specs.Changes.{conflicts_with_reserve}
 use Rattle.pr_views.specs.Portions.{HasSomebody}
 use Rattle.pr_regions.specs.declared.purpose.Purpose.{Purpose}
+use Rattle.pr_regions.specs.declared.purpose.Standing.{Standing}
 use Rattle.pr_regions.specs.declared.region.Ending.TheVariants as ending
-use Rattle.pr_regions.specs.Regions.{Meets, filter_of, Ends, IsUntestedOrRegistered, IsProper as IsProperBranch}
-use Rattle.pr_domain.specs.inside.Tallies.{AreRight, IsAsked, IsRefusedAt}
+use Rattle.pr_regions.specs.Regions.{Meets, names, filter_of, Ends, IsUntestedOrRegistered, IsProper as IsProperBranch}
+use Rattle.pr_domain.specs.inside.Tallies.{AreRight, HasOneOf, IsAsked, IsRefusedAt}
+use Rattle.pr_views.specs.Possibilities.{key_at}
+use Rattle.pr_domain.specs.inside.TestedCommands.{AreAlike}
+use Rattle.pr_domain.specs.declared.tested.TestedCommand.{TestedCommand}
+use Rattle.pr_regions.specs.declared.purpose.Standing.TheVariants.{Unregistered, Named, Other}
 use Rattle.pr_regions.proofs.lemmas.Portions.GatheredStates.{few_keys}
 
 -- a sender with this registration alone
@@ -18,6 +23,31 @@ only_uniform r w only none m there =
     let zero_is : 0 ≡ r = (let tells = sym (only 0) ∙ none in grind (arith, nat_tests)) in
     let m_is : m ≡ r = (let tells = sym (only m) ∙ there in grind (arith, nat_tests)) in
     m_is ∙ sym zero_is
+
+-- it is alike to itself
+pub alone_alike : (q : TestedCommand) (registration : ℕ) (w : BitSet) → ((m : ℕ) → has w m ≡ (m == registration)) → AreAlike q registration w
+alone_alike q registration w only = record {
+  itself = only registration ∙ grind (arith, nat_tests);
+  refused = λ r among. ap (λ n. is_refused (key_at q.keys.now n) q.command) (same r among);
+  stands = λ purpose asks r among. ap (standing_of purpose) (same r among);
+  uniform = only_uniform registration w only;
+  read = λ reads r among. same r among;
+}
+  where
+    same : (r : ℕ) → has w r ≡ true → r ≡ registration
+    same r among = let tells = sym (only r) ∙ among in grind (arith, nat_tests)
+
+-- who stands alike is registered, or nobody is
+pub uniform_by : (purpose : Purpose) (registration : ℕ) (w : BitSet) → ((r : ℕ) → has w r ≡ true → standing_of purpose r ≡ standing_of purpose registration) → IsUniform w
+uniform_by purpose registration w stands none m there = at m (stands m there ∙ sym (stands 0 none))
+  where
+    at : (m : ℕ) → standing_of purpose m ≡ Unregistered → m ≡ 0
+    at zero is = refl
+    at (suc i) is = by (names purpose (suc i)) is
+      where
+        by : (b : Bool) → (if b then Named else Other) ≡ Unregistered → suc i ≡ 0
+        by true is = let bad : Named ≡ Unregistered = is in cc
+        by false is = let bad : Other ≡ Unregistered = is in cc
 
 -- the sender's registration in a state where it is among those of the word
 pub sender_is : (s : Scope) (view : Possibilities) (place : Place) (r : ℕ) (w : BitSet) (region : Region) (u : UnitState) → IsPlace s view place → ((m : ℕ) → has w m ≡ (m == r))
@@ -28,42 +58,52 @@ sender_is s view place r w region u is only at =
     let same : seen.0 ≡ r = (let tells = sym (only seen.0) ∙ at.sender seen.0 seen.1.1 in grind (arith, nat_tests)) in
     subst (λ n. IsSo s u (Registration place.sender n)) same seen.1.1
 
+-- the sender has one of the registrations in a state where its registration is among those of the word, and the other way round
+pub sender_among : (s : Scope) (view : Possibilities) (place : Place) (w : BitSet) (region : Region) (u : UnitState) → IsPlace s view place → IsAt (view_in s view) place w region u → HasOneOf s place w u
+sender_among s view place w region u is at =
+    let below : place.sender < s.hosts = subst (λ n. place.sender < n) (sym is.hosts) place.there in
+    let seen = at.shown.registrations place.sender below in
+    record { registration = seen.0; among = at.sender seen.0 seen.1.1; reserved = at.reservation; registered = seen.1.1 }
+
+among_senders : (s : Scope) (view : Possibilities) (place : Place) (w : BitSet) (u : UnitState) → IsPlace s view place → HasOneOf s place w u → (t : ℕ) → IsSo s u (Registration place.sender t) → has w t ≡ true
+among_senders s view place w u is one t so = subst (λ n. has w n ≡ true) (one_registration s u place.sender one.registration t is.fits.scope one.registered so) one.among
+
 -- the command as the branches see it
-meets : (s : Scope) (c : Command) (tests : List Test) (view : Possibilities) (place : Place) (purpose : Purpose) (arm r : ℕ) (u : UnitState) → IsAsked s c tests view place purpose arm r
-    → Shows (view_in s view) u → HasBoth s place r u → Meets s purpose place.held place.sender (standing_of purpose r) u c
-meets s c tests view place purpose arm r u asked shown both = record {
+meets : (s : Scope) (c : Command) (tests : List Test) (view : Possibilities) (place : Place) (purpose : Purpose) (arm : ℕ) (w : BitSet) (standing : Standing) (u : UnitState) → IsAsked s c tests view place purpose arm w standing
+    → Shows (view_in s view) u → HasOneOf s place w u → Meets s purpose place.held place.sender standing u c
+meets s c tests view place purpose arm w standing u asked shown one = record {
   scope = asked.is.fits.scope;
   below = subst (λ n. place.sender < n) (sym asked.is.hosts) place.there;
   formed = shown.formed;
   hosts = shown.hosts;
   numbered = λ g below. let seen = shown.registrations g below in (seen.0, seen.1.1);
-  held = same_reservation s view place u asked.is shown both.reserved;
-  standing = λ t so. ap (standing_of purpose) (one_registration s u place.sender t r asked.is.fits.scope so both.registered);
+  held = same_reservation s view place u asked.is shown one.reserved;
+  standing = λ t so. asked.stands t (among_senders s view place w u asked.is one t so);
   purpose = asked.asks;
-  accepted = subst (λ k. is_refused k c ≡ false) (sym both.registered.2) asked.accepted;
+  accepted = subst (λ k. is_refused k c ≡ false) (sym one.registered.2) (asked.accepted one.registration one.among);
 }
 
-pub asked_right : (s : Scope) (c : Command) (tests : List Test) (view : Possibilities) (place : Place) (purpose : Purpose) (arm r : ℕ) (w : BitSet) (branches : List Branch)
-    → IsAsked s c tests view place purpose arm r → ((m : ℕ) → has w m ≡ (m == r)) → AreBranches place.hosts purpose place.held place.sender (standing_of purpose r) branches
+pub asked_right : (s : Scope) (c : Command) (tests : List Test) (view : Possibilities) (place : Place) (purpose : Purpose) (arm : ℕ) (w : BitSet) (standing : Standing) (branches : List Branch)
+    → IsAsked s c tests view place purpose arm w standing → AreBranches place.hosts purpose place.held place.sender standing branches
     → ((b : Branch) → Contains branches b → IsProperBranch b) → AreRight s c tests view place w branches arm
-asked_right s c tests view place purpose arm r w branches asked only are proper b listed = record {
+asked_right s c tests view place purpose arm w standing branches asked are proper b listed = record {
   own = asked.own;
   is = asked.is;
-  uniform = only_uniform r w only;
+  uniform = asked.uniform;
   proper = proper b listed;
   ends = λ u at.
-      let both : HasBoth s place r u = record { reserved = at.reservation; registered = sender_is s view place r w b.region u asked.is only at } in
-      let decided = are s u c asked.is.hosts (meets s c tests view place purpose arm r u asked at.shown both) in
+      let one = sender_among s view place w b.region u asked.is at in
+      let decided = are s u c asked.is.hosts (meets s c tests view place purpose arm w standing u asked at.shown one) in
       subst (λ n. Ends s n b.ending u c) asked.own (decided.right b listed at.inside);
   taken = λ u at free. asked.taken u.registry;
 }
 
--- each state with this registration is in the region of one of the branches, and the other way round
-pub asked_covers : (s : Scope) (c : Command) (tests : List Test) (view : Possibilities) (place : Place) (purpose : Purpose) (arm r : ℕ) (w : BitSet) (branches : List Branch)
-    → IsAsked s c tests view place purpose arm r → ((m : ℕ) → has w m ≡ (m == r)) → AreBranches place.hosts purpose place.held place.sender (standing_of purpose r) branches
-    → (u : UnitState) → Shows (view_in s view) u → HasBoth s place r u → IsInOne (view_in s view) place w branches (length branches) u
-asked_covers s c tests view place purpose arm r w branches asked only are u shown both =
-    let decided = are s u c asked.is.hosts (meets s c tests view place purpose arm r u asked shown both) in
+-- each state with one of these registrations is in the region of one of the branches, and the other way round
+pub asked_covers : (s : Scope) (c : Command) (tests : List Test) (view : Possibilities) (place : Place) (purpose : Purpose) (arm : ℕ) (w : BitSet) (standing : Standing) (branches : List Branch)
+    → IsAsked s c tests view place purpose arm w standing → AreBranches place.hosts purpose place.held place.sender standing branches
+    → (u : UnitState) → Shows (view_in s view) u → HasOneOf s place w u → IsInOne (view_in s view) place w branches (length branches) u
+asked_covers s c tests view place purpose arm w standing branches asked are u shown one =
+    let decided = are s u c asked.is.hosts (meets s c tests view place purpose arm w standing u asked shown one) in
     let covered = decided.covered in
     record {
       index = covered.listed.0;
@@ -72,19 +112,16 @@ asked_covers s c tests view place purpose arm r w branches asked only are u show
       listed = slice_get-get_or branches covered.listed.0 covered.branch covered.listed.1 ∙ ap (λ b. Some b) covered.listed.2;
       at = record {
         shown = shown;
-        reservation = both.reserved;
-        sender = λ t so.
-            let same = one_registration s u place.sender t r asked.is.fits.scope so both.registered in
-            only t ∙ grind (arith, nat_tests);
+        reservation = one.reserved;
+        sender = λ t so. among_senders s view place w u asked.is one t so;
         inside = covered.inside;
       };
     }
 
-pub asked_back : (s : Scope) (c : Command) (tests : List Test) (view : Possibilities) (place : Place) (purpose : Purpose) (arm r : ℕ) (w : BitSet) (branches : List Branch)
-    → IsAsked s c tests view place purpose arm r → ((m : ℕ) → has w m ≡ (m == r)) → (n : ℕ)
-    → (u : UnitState) → Shows (view_in s view) u → IsInOne (view_in s view) place w branches n u → HasBoth s place r u
-asked_back s c tests view place purpose arm r w branches asked only n u shown one =
-    record { reserved = one.at.reservation; registered = sender_is s view place r w one.branch.region u asked.is only one.at }
+pub asked_back : (s : Scope) (c : Command) (tests : List Test) (view : Possibilities) (place : Place) (purpose : Purpose) (arm : ℕ) (w : BitSet) (standing : Standing) (branches : List Branch)
+    → IsAsked s c tests view place purpose arm w standing → (n : ℕ)
+    → (u : UnitState) → Shows (view_in s view) u → IsInOne (view_in s view) place w branches n u → HasOneOf s place w u
+asked_back s c tests view place purpose arm w standing branches asked n u shown one = sender_among s view place w one.branch.region u asked.is one.at
 
 -- ---- a key that is not accepted
 
@@ -98,13 +135,13 @@ refused_conflicts u h (command.PreemptAbort rk sark kind) is = or_left (not (is_
 refused_conflicts u h _ is = is
 
 -- every state is in the region that leaves anything
-pub anywhere : (s : Scope) (view : Possibilities) (place : Place) (r : ℕ) (w any : BitSet) (region : Region) (u : UnitState) → IsPlace s view place → ((m : ℕ) → has w m ≡ (m == r))
+pub anywhere : (s : Scope) (view : Possibilities) (place : Place) (w any : BitSet) (region : Region) (u : UnitState) → IsPlace s view place
     → ((n : ℕ) → has any n ≡ nat_lt n MOST_REGISTRATIONS) → region.holder ≡ any → region.others ≡ any → region.somebody ≡ None
-    → Shows (view_in s view) u → HasBoth s place r u → IsAt (view_in s view) place w region u
-anywhere s view place r w any region u is only below holder others none shown both = record {
+    → Shows (view_in s view) u → HasOneOf s place w u → IsAt (view_in s view) place w region u
+anywhere s view place w any region u is below holder others none shown one = record {
   shown = shown;
-  reservation = both.reserved;
-  sender = λ t so. let same = one_registration s u place.sender t r is.fits.scope so both.registered in only t ∙ grind (arith, nat_tests);
+  reservation = one.reserved;
+  sender = λ t so. among_senders s view place w u is one t so;
   inside = record {
     registrations = λ g n other so. passes n (let few = few_keys s.keys is.fits.scope.keys in let small = so.1 in omega arith) u.registry.held g;
     somebody = subst (λ o. HasSomebody s u place.sender (option_map has o)) (sym none) tt;
@@ -120,12 +157,12 @@ anywhere s view place r w any region u is only below holder others none shown bo
         pick false = ap (λ x. has x n) others ∙ below n ∙ lt-ltb n MOST_REGISTRATIONS small
     passes n small (Some (Everybody kind)) g = ap (λ x. has x n) others ∙ below n ∙ lt-ltb n MOST_REGISTRATIONS small
 
-pub refused_right : (s : Scope) (c : Command) (tests : List Test) (view : Possibilities) (place : Place) (r : ℕ) (w : BitSet) (b : Branch) (arm : ℕ)
-    → IsRefusedAt s c view place r → ((m : ℕ) → has w m ≡ (m == r)) → b.ending ≡ ending.Conflict → b.region.somebody ≡ None → IsRight s c tests view place w b arm
-refused_right s c tests view place r w b arm refused only conflict untested = record {
+pub refused_right : (s : Scope) (c : Command) (tests : List Test) (view : Possibilities) (place : Place) (w : BitSet) (b : Branch) (arm : ℕ)
+    → IsRefusedAt s c view place w → b.ending ≡ ending.Conflict → b.region.somebody ≡ None → IsRight s c tests view place w b arm
+refused_right s c tests view place w b arm refused conflict untested = record {
   own = refused.own;
   is = refused.is;
-  uniform = only_uniform r w only;
+  uniform = refused.uniform;
   proper = subst IsUntestedOrRegistered (sym untested) tt;
   ends = λ u at. subst (λ e. Ends s s.own e u c) (sym conflict) (conflicts u at);
   taken = λ u at free. absurd (false≢true (sym free ∙ conflicts u at));
@@ -133,10 +170,6 @@ refused_right s c tests view place r w b arm refused only conflict untested = re
   where
     conflicts : (u : UnitState) → IsAt (view_in s view) place w b.region u → command_conflicts u.registry s.own c ≡ true
     conflicts u at =
-        let so = sender_is s view place r w b.region u refused.is only at in
+        let one = sender_among s view place w b.region u refused.is at in
         subst (λ n. command_conflicts u.registry n c ≡ true) refused.own
-        (refused_conflicts u.registry place.sender c (subst (λ k. is_refused k c ≡ true) (sym so.2) refused.refused))
-
-pub refused_back : (s : Scope) (c : Command) (view : Possibilities) (place : Place) (r : ℕ) (w : BitSet) (region : Region) → IsRefusedAt s c view place r → ((m : ℕ) → has w m ≡ (m == r))
-    → (u : UnitState) → IsAt (view_in s view) place w region u → HasBoth s place r u
-refused_back s c view place r w region refused only u at = record { reserved = at.reservation; registered = sender_is s view place r w region u refused.is only at }
+        (refused_conflicts u.registry place.sender c (subst (λ k. is_refused k c ≡ true) (sym one.registered.2) (refused.refused one.registration one.among)))

@@ -1,46 +1,51 @@
 -- The states that a view shows, by their reservation and the owner's registration, one after another.
-use Rattle.pr_domain.proofs.Common.{◌≡◌, ℕ, ◌+◌, ◌<◌, true, false, ◌⊎◌, List, length, sym, ◌∙◌, subst, inl, inr, arith, false≢true, cases_order, cases_eq, has_wide, has, Command, UnitState, Test, has_at, view_in, Scope, count_of_reservations, Item, Registration, Reservation, IsSo, View, Shows, Possibilities, one_registration, IsPlace, Place, Tally, has_tallied, IsFound, Grows, IsTally, HasFirst, HasBoth, IsReserved, IsOwners, IsOfScope}
+use Rattle.pr_domain.proofs.Common.{◌≡◌, ℕ, ◌+◌, ◌<◌, Bool, true, false, ◌||◌, ◌⊎◌, List, length, sym, refl, ap, ◌∙◌, subst, inl, inr, arith, false≢true, cases_order, cases_eq, has_wide, has, BitSet, Command, UnitState, Test, has_at, view_in, Scope, count_of_reservations, Item, Registration, Reservation, IsSo, View, Shows, Possibilities, one_registration, IsPlace, Place, Tally, has_tallied, IsFound, Grows, IsTally, HasFirst, HasBoth, HasOneOf, IsReserved, IsOwners, IsOfScope}
+use Rattle.std.proofs.lemmas.Bool.{or_left, or_right}
 use Rattle.pr_regions.proofs.lemmas.Showing.ShownStates.{is_place}
 use Rattle.pr_domain.proofs.lemmas.Tallies.Growth.{grows_as, grows_then, grows_from_none}
 
--- ---- one registration more
+-- ---- registrations
 
-first_or_this : (s : Scope) (place : Place) (n : ℕ) (u : UnitState) → HasFirst s place (n + 1) u → HasFirst s place n u ⊎ HasBoth s place n u
-first_or_this s place n u first = at (cases_eq first.registration n)
+-- those of one word, and those of another
+pub senders_more : (v : View) (s : Scope) (c : Command) (tests : List Test) (place : Place) (done more both : BitSet) (old mid new : Tally) → ((m : ℕ) → has both m ≡ (has done m || has more m))
+    → Grows v c tests old mid (HasOneOf s place done) → Grows v c tests mid new (HasOneOf s place more) → Grows v c tests old new (HasOneOf s place both)
+senders_more v s c tests place done more both old mid new joined =
+    grows_then v c tests old mid new (HasOneOf s place done) (HasOneOf s place more) (HasOneOf s place both)
+    (λ u shown one. record { registration = one.registration; among = joined one.registration ∙ or_left (has done one.registration) (has more one.registration) one.among; reserved = one.reserved; registered = one.registered })
+    (λ u shown one. record { registration = one.registration; among = joined one.registration ∙ or_right (has done one.registration) (has more one.registration) one.among; reserved = one.reserved; registered = one.registered })
+    (λ u shown one. either u one (has done one.registration) refl)
   where
-    at : (first.registration ≡ n) ⊎ (first.registration ≡ n → ⊥) → HasFirst s place n u ⊎ HasBoth s place n u
-    at (inl same) = inr (record { reserved = first.reserved; registered = subst (λ r. IsSo s u (Registration place.sender r)) same first.registered })
-    at (inr other) = inl (record {
-      registration = first.registration;
-      below = (let e = first.below in let o : first.registration < n = omega (arith, cases_order first.registration n) in o);
-      reserved = first.reserved;
-      registered = first.registered;
+    either : (u : UnitState) (one : HasOneOf s place both u) (b : Bool) → has done one.registration ≡ b → HasOneOf s place done u ⊎ HasOneOf s place more u
+    either u one true is = inl (record { registration = one.registration; among = is; reserved = one.reserved; registered = one.registered })
+    either u one false is = inr (record {
+      registration = one.registration;
+      among = sym (ap (λ b. b || has more one.registration) is) ∙ sym (joined one.registration) ∙ one.among;
+      reserved = one.reserved;
+      registered = one.registered;
     })
 
-pub registration_more : (v : View) (s : Scope) (c : Command) (tests : List Test) (place : Place) (n : ℕ) (old mid new : Tally)
-    → Grows v c tests old mid (HasFirst s place n) → Grows v c tests mid new (HasBoth s place n) → Grows v c tests old new (HasFirst s place (n + 1))
-registration_more v s c tests place n old mid new =
-    grows_then v c tests old mid new (HasFirst s place n) (HasBoth s place n) (HasFirst s place (n + 1))
-    (λ u shown first. record { registration = first.registration; below = (let e = first.below in omega arith); reserved = first.reserved; registered = first.registered })
-    (λ u shown both. record { registration = n; below = omega arith; reserved = both.reserved; registered = both.registered })
-    (λ u shown first. first_or_this s place n u first)
-
--- a registration that the view has not is nobody's
-pub registration_skipped : (s : Scope) (c : Command) (tests : List Test) (view : Possibilities) (place : Place) (n : ℕ) (old mid : Tally) → IsPlace s view place
-    → has_at view.registrations place.sender n ≡ false → Grows (view_in s view) c tests old mid (HasFirst s place n)
-    → Grows (view_in s view) c tests old mid (HasFirst s place (n + 1))
-registration_skipped s c tests view place n old mid is hasnt first =
-    registration_more (view_in s view) s c tests place n old mid mid first (grows_from_none (view_in s view) c tests mid (HasBoth s place n) nobody)
+-- where all that are possible are done, every one is
+pub senders_all : (s : Scope) (c : Command) (tests : List Test) (view : Possibilities) (place : Place) (n : ℕ) (done : BitSet) (old new : Tally) → IsPlace s view place → n ≡ length s.keys + 1
+    → ((r : ℕ) → r < n → has_at view.registrations place.sender r ≡ true → has done r ≡ true)
+    → Grows (view_in s view) c tests old new (HasOneOf s place done) → Grows (view_in s view) c tests old new (HasFirst s place n)
+senders_all s c tests view place n done old new is whole all =
+    grows_as (view_in s view) c tests old new (HasOneOf s place done) (HasFirst s place n)
+    (λ u shown one. record { registration = one.registration; below = (let few = one.registered.1 in omega arith); reserved = one.reserved; registered = one.registered })
+    (λ u shown first. record { registration = first.registration; among = all first.registration first.below (possible u shown first); reserved = first.reserved; registered = first.registered })
   where
-    nobody : (u : UnitState) → Shows (view_in s view) u → HasBoth s place n u → ⊥
-    nobody u shown both =
+    possible : (u : UnitState) → Shows (view_in s view) u → (first : HasFirst s place n u) → has_at view.registrations place.sender first.registration ≡ true
+    possible u shown first =
         let below : place.sender < s.hosts = subst (λ m. place.sender < m) (sym is.hosts) place.there in
         let seen = shown.registrations place.sender below in
-        let same = one_registration s u place.sender seen.0 n is.fits.scope seen.1.1 both.registered in
-        false≢true (sym hasnt ∙ subst (λ r. has_at view.registrations place.sender r ≡ true) same seen.1.0.1)
+        let same = one_registration s u place.sender seen.0 first.registration is.fits.scope seen.1.1 first.registered in
+        subst (λ r. has_at view.registrations place.sender r ≡ true) same seen.1.0.1
 
-pub registrations_none : (s : Scope) (c : Command) (tests : List Test) (v : View) (place : Place) (t : Tally) → Grows v c tests t t (HasFirst s place 0)
-registrations_none s c tests v place t = grows_from_none v c tests t (HasFirst s place 0) (λ u shown first. absurd (let e = first.below in omega arith))
+pub senders_none : (s : Scope) (c : Command) (tests : List Test) (v : View) (place : Place) (none : BitSet) (t : Tally) → ((m : ℕ) → has none m ≡ false) → Grows v c tests t t (HasOneOf s place none)
+senders_none s c tests v place none t nothing = grows_from_none v c tests t (HasOneOf s place none) (λ u shown one. false≢true (sym (nothing one.registration) ∙ one.among))
+
+-- one of registrations among which there is no other than this one
+pub this_alone : (s : Scope) (place : Place) (registration : ℕ) (alike : BitSet) → ((r : ℕ) → has alike r ≡ true → r ≡ registration) → (u : UnitState) → HasOneOf s place alike u → HasBoth s place registration u
+this_alone s place registration alike alone u one = record { reserved = one.reserved; registered = subst (λ n. IsSo s u (Registration place.sender n)) (alone one.registration one.among) one.registered }
 
 -- ---- one reservation more
 

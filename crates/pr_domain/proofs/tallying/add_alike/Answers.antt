@@ -1,9 +1,10 @@
-use Rattle.pr_domain.proofs.Common.{ℕ, length, All, Contains, sym, ap, ◌∙◌, subst, view_in, key_at, purpose_of, is_refused, Reading, HasBoth, IsReadFirst}
+use Rattle.pr_domain.proofs.Common.{ℕ, length, All, Contains, sym, ap, ◌∙◌, subst, view_in, key_at, purpose_of, is_refused, Reading, HasBoth, HasOneOf, IsReadFirst}
 use Rattle.std.proofs.lemmas.List.Elements.{All-contains}
 use Rattle.pr_regions.specs.Readings.{AreReadings, IsProperReading}
 use Rattle.pr_domain.proofs.lemmas.Tallies.DataArms.{right_readings, readings_cover, arm_taken}
 use Rattle.pr_domain.proofs.lemmas.Tallies.Growth.{grows_as}
-use Rattle.pr_domain.proofs.tallying.add_registration.Goals as goal
+use Rattle.pr_domain.proofs.lemmas.Tallies.ShownStates.{this_alone}
+use Rattle.pr_domain.proofs.tallying.add_alike.Goals as goal
 
 are : (c : goal.After-add_readings) (hosts : ℕ) → AreReadings c.args.asked.now.keys.now hosts c.args.asked.now.tests.now c.args.asked.now.command c.args.place.held c.args.place.sender c.args.registration c.deref.result.now
 are c hosts = subst (λ l. AreReadings c.args.asked.now.keys.now hosts c.args.asked.now.tests.now c.args.asked.now.command c.args.place.held c.args.place.sender c.args.registration l) (sym c.deref.ensures.0) (c.readings-readings.ensures.right hosts)
@@ -11,21 +12,37 @@ are c hosts = subst (λ l. AreReadings c.args.asked.now.keys.now hosts c.args.as
 proper : (c : goal.After-add_readings) (b : Reading) → Contains c.deref.result.now b → IsProperReading b
 proper c b there = All-contains IsProperReading c.deref.result.now b (subst (λ l. All IsProperReading l) (sym c.deref.ensures.0) c.readings-readings.ensures.proper) there
 
+pub returns-then-is_refused : goal.returns-then-is_refused
+returns-then-is_refused c s owners = c.add_refused.ensures s c.args.asked.now.command c.args.asked.now.tests.now (record {
+  own = owners.own;
+  is = owners.is;
+  uniform = c.requires.alike.uniform;
+  refused = λ r among. ap (λ k. is_refused (key_at k r) c.args.asked.now.command) owners.same_keys ∙ c.requires.alike.refused r among ∙ ap (λ k. is_refused k c.args.asked.now.command) (sym c.key_at.ensures) ∙ sym c.is_refused.ensures
+      ∙ c.if-is_refused.true;
+})
+
 pub returns-then-is_reading : goal.returns-then-is_reading
 returns-then-is_reading c s owners =
     grows_as (view_in s c.args.view.now) c.args.asked.now.command c.args.asked.now.tests.now c.args.tally.now c.add_readings.new.tally
+    (HasBoth s c.args.place c.args.registration) (HasOneOf s c.args.place c.args.alike)
+    (λ u shown both. record { registration = c.args.registration; among = c.requires.alike.itself; reserved = both.reserved; registered = both.registered })
+    (λ u shown one. this_alone s c.args.place c.args.registration c.args.alike (c.requires.alike.read (sym c.is_reading.ensures ∙ c.if-is_reading.true)) u one)
+    (grows_as (view_in s c.args.view.now) c.args.asked.now.command c.args.asked.now.tests.now c.args.tally.now c.add_readings.new.tally
     (IsReadFirst s c.args.view.now c.args.place c.args.registration c.deref.result.now (length c.deref.result.now)) (HasBoth s c.args.place c.args.registration)
     (λ u shown first. first.at.0)
     (λ u shown both. readings_cover s c.args.asked.now.keys.now c.args.asked.now.command c.args.asked.now.tests.now c.args.view.now c.args.place c.args.registration c.deref.result.now owners (are c) u shown both)
     (c.add_readings.ensures s c.args.asked.now.command c.args.asked.now.tests.now (right_readings s c.args.asked.now.keys.now c.args.asked.now.command c.args.asked.now.tests.now c.args.view.now c.args.place c.args.registration c.deref.result.now owners
-    (sym c.is_reading.ensures ∙ c.if-is_reading.true) c.args.asked.now.few (are c) (proper c)))
+    (sym c.is_reading.ensures ∙ c.if-is_reading.true) c.args.asked.now.few (are c) (proper c))))
 
 pub returns-else-is_reading : goal.returns-else-is_reading
 returns-else-is_reading c s owners = c.add_accepted.ensures s c.args.asked.now.command c.args.asked.now.tests.now (record {
   own = owners.own;
   is = owners.is;
-  asks = ap (λ k. purpose_of k c.args.asked.now.command) owners.same_keys ∙ sym c.purpose_of.ensures.purpose;
-  accepted = ap (λ k. is_refused (key_at k c.args.registration) c.args.asked.now.command) owners.same_keys ∙ ap (λ k. is_refused k c.args.asked.now.command) (sym c.key_at.ensures) ∙ sym c.is_refused.ensures ∙ c.if-is_refused.false;
+  uniform = c.requires.alike.uniform;
+  asks = ap (λ k. purpose_of k c.args.asked.now.command) owners.same_keys ∙ sym c.purpose_of-purpose.ensures.purpose;
+  stands = λ r among. c.requires.alike.stands c.purpose_of-purpose.result (sym c.purpose_of-purpose.ensures.purpose) r among ∙ sym c.standing_of-standing.ensures;
+  accepted = λ r among. ap (λ k. is_refused (key_at k r) c.args.asked.now.command) owners.same_keys ∙ c.requires.alike.refused r among ∙ ap (λ k. is_refused k c.args.asked.now.command) (sym c.key_at.ensures) ∙ sym c.is_refused.ensures
+      ∙ c.if-is_refused.false;
   taken = λ u. arm_taken c.args.asked.now.keys.now c.args.asked.now.command c.args.asked.now.tests.now c.first_arm.result c.way_of-arm.result.number u (sym c.is_reading.ensures ∙ c.if-is_reading.false) c.args.asked.now.fit c.args.asked.now.few
       c.first_arm.ensures c.way_of-arm.ensures.way c.way_of-arm.ensures.none;
 })
