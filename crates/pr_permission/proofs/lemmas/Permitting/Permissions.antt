@@ -22,6 +22,7 @@ use Rattle.pr_permission.specs.inside.Permitting.{EndsGood, IsAsking, permits_at
 use Rattle.pr_regions.proofs.lemmas.Conditions.Senders.{holds_by}
 use Rattle.pr_regions.proofs.lemmas.Portions.GatheredStates.{few_keys}
 use Rattle.pr_domain.proofs.lemmas.Tallies.Growth.{listed_there}
+use Rattle.pr_domain.proofs.lemmas.Tallies.ShownStates.{this_alone}
 use Rattle.pr_domain.proofs.lemmas.Tallies.Requests.{only_uniform, asked_right, asked_covers, asked_back, refused_conflicts}
 
 -- ---- what a text can write
@@ -104,9 +105,20 @@ pub refused_permitted : (keys : List ℕ) (c : Command) (view : Possibilities) (
 refused_permitted keys c view place r clauses refused u shown both ends =
     absurd (false≢true (sym ends.free ∙ refused_conflicts u.registry place.sender c (subst (λ k. is_refused k c ≡ true) (sym both.registered.2) refused)))
 
-asked : (keys : List ℕ) (c : Command) (view : Possibilities) (place : Place) (purpose : Purpose) (r : ℕ) → IsThis keys c view place → purpose_of keys c ≡ Some purpose → is_refused (key_at keys r) c ≡ false
-    → IsAsked (scope_at keys place.hosts place.sender) c [] view place purpose 0 r
-asked keys c view place purpose r this asks accepted = record { own = refl; is = this.is; asks = asks; accepted = accepted; taken = λ u. refl }
+this_is : (r : ℕ) (w : BitSet) → ((m : ℕ) → has w m ≡ (m == r)) → (t : ℕ) → has w t ≡ true → t ≡ r
+this_is r w only t there = let tells = sym (only t) ∙ there in grind (arith, nat_tests)
+
+asked : (keys : List ℕ) (c : Command) (view : Possibilities) (place : Place) (purpose : Purpose) (r : ℕ) (w : BitSet) → IsThis keys c view place → purpose_of keys c ≡ Some purpose → is_refused (key_at keys r) c ≡ false
+    → ((m : ℕ) → has w m ≡ (m == r)) → IsAsked (scope_at keys place.hosts place.sender) c [] view place purpose 0 w (standing_of purpose r)
+asked keys c view place purpose r w this asks accepted only = record {
+  own = refl;
+  is = this.is;
+  uniform = only_uniform r w only;
+  asks = asks;
+  stands = λ t there. ap (standing_of purpose) (this_is r w only t there);
+  accepted = λ t there. subst (λ n. is_refused (key_at keys n) c ≡ false) (sym (this_is r w only t there)) accepted;
+  taken = λ u. refl;
+}
 
 -- a state in which it ends GOOD is in the region of a branch that does
 reached_where_good : (keys : List ℕ) (c : Command) (view : Possibilities) (place : Place) (purpose : Purpose) (r : ℕ) (w : BitSet) (branches : List Branch)
@@ -120,14 +132,17 @@ reached_where_good keys c view place purpose r w branches this asks accepted onl
     s : Scope
     s = scope_at keys place.hosts place.sender
 
-    known : IsAsked (scope_at keys place.hosts place.sender) c [] view place purpose 0 r
-    known = asked keys c view place purpose r this asks accepted
+    known : IsAsked (scope_at keys place.hosts place.sender) c [] view place purpose 0 w (standing_of purpose r)
+    known = asked keys c view place purpose r w this asks accepted only
 
     one : IsInOne (view_in (scope_at keys place.hosts place.sender) view) place w branches (length branches) u
-    one = asked_covers s c [] view place purpose 0 r w branches known only are u shown both
+    one =
+        let itself : (r == r) ≡ true = grind (arith, nat_tests) in
+        asked_covers s c [] view place purpose 0 w (standing_of purpose r) branches known are u shown
+        (record { registration = r; among = only r ∙ itself; reserved = both.reserved; registered = both.registered })
 
     right : IsRight (scope_at keys place.hosts place.sender) c [] view place w one.branch 0
-    right = asked_right s c [] view place purpose 0 r w branches known only are proper one.branch (listed_there branches one.index one.branch one.listed)
+    right = asked_right s c [] view place purpose 0 w (standing_of purpose r) branches known are proper one.branch (listed_there branches one.index one.branch one.listed)
 
     none_some : (sense : Sense) → None ≡ Some sense → ⊥
     none_some sense same = let bad : None ≡ Some sense = same in cc
@@ -159,19 +174,20 @@ good_where_reached : (keys : List ℕ) (c : Command) (view : Possibilities) (pla
 good_where_reached keys c view place purpose r w branches this asks accepted only are proper one = record {
   unit = one.reached.there.unit;
   shown = one.reached.there.at.shown;
-  both = asked_back s c [] view place purpose 0 r w branches known only (length branches) one.reached.there.unit one.reached.there.at.shown
-      (record { index = one.index; below = one.below; branch = one.branch; listed = one.listed; at = one.reached.there.at });
+  both = this_alone s place r w (this_is r w only) one.reached.there.unit
+      (asked_back s c [] view place purpose 0 w (standing_of purpose r) branches known (length branches) one.reached.there.unit one.reached.there.at.shown
+      (record { index = one.index; below = one.below; branch = one.branch; listed = one.listed; at = one.reached.there.at }));
   ends = record { idle = one.reached.there.pending; free = ended.0; whole = ended.1 };
 }
   where
     s : Scope
     s = scope_at keys place.hosts place.sender
 
-    known : IsAsked (scope_at keys place.hosts place.sender) c [] view place purpose 0 r
-    known = asked keys c view place purpose r this asks accepted
+    known : IsAsked (scope_at keys place.hosts place.sender) c [] view place purpose 0 w (standing_of purpose r)
+    known = asked keys c view place purpose r w this asks accepted only
 
     right : IsRight (scope_at keys place.hosts place.sender) c [] view place w one.branch 0
-    right = asked_right s c [] view place purpose 0 r w branches known only are proper one.branch (listed_there branches one.index one.branch one.listed)
+    right = asked_right s c [] view place purpose 0 w (standing_of purpose r) branches known are proper one.branch (listed_there branches one.index one.branch one.listed)
 
     ended : Ends (scope_at keys place.hosts place.sender) place.sender (ending.Good one.reached.change) one.reached.there.unit c
     ended = subst (λ e. Ends (scope_at keys place.hosts place.sender) place.sender e one.reached.there.unit c) one.reached.good (right.ends one.reached.there.unit one.reached.there.at)
