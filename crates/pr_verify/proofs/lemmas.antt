@@ -1,6 +1,7 @@
 pub mod Checks
 pub mod Gaining
 pub mod Inferring
+pub mod Invariants
 pub mod Known
 pub mod Laws
 pub mod Least

@@ -1,3 +1,4 @@
+pub mod Invariants
 pub mod Listing
 pub mod Least
 pub mod Lacking

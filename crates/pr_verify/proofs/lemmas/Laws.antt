@@ -1,3 +1,2 @@
 pub mod Budgets
 pub mod Runs
-pub mod Safety

@@ -1,6 +1,5 @@
 pub mod Checks
 pub mod Controls
-pub mod Events
 pub mod LineOrder
 pub mod Lookups
 pub mod UnnoticedCommands

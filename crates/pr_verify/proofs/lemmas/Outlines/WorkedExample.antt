@@ -31,7 +31,7 @@ use Rattle.pr_roles.specs.Scenarios.{Planned}
 use Rattle.pr_roles.specs.Starts.{CanStart}
 use Rattle.pr_views.specs.Possibilities.{key_at, number_of}
 use Rattle.pr_verify.specs.Outlines.{AllSendsFit, HasArms}
-use Rattle.pr_verify.proofs.lemmas.Laws.Safety.{outlines_make_safe}
+use Rattle.pr_verify.proofs.lemmas.Invariants.Outlines.{outlines_make_safe}
 
 -- ---- the scenario
 

@@ -1,0 +1,4 @@
+pub mod Events
+pub mod Laws
+pub mod Lines
+pub mod Outlines
