@@ -1,4 +1,4 @@
-use Rattle.pr_interference.proofs.Common.{◌≡◌, ◌+◌, true, sym, subst, arith, has_wide, number_of, One, Some}
+use Rattle.pr_interference.proofs.Common.{◌≡◌, ◌+◌, true, subst, arith, has_wide, number_of, One, Some}
 use Rattle.pr_interference.proofs.holders.alone.Goals as goal
 
 pub returns : goal.returns

@@ -1,4 +1,4 @@
-use Rattle.pr_interference.proofs.Common.{◌≡◌, ◌<◌, Some, None, ◌∙◌, arith, false≢true, nat_tests, One}
+use Rattle.pr_interference.proofs.Common.{◌<◌, Some, None, ◌∙◌, arith, false≢true, nat_tests, One}
 use Rattle.pr_cdb.specs.declared.command.Kind.TheVariants.{WriteExclusive, ExclusiveAccess, WriteExclusiveRegistrantsOnly, ExclusiveAccessRegistrantsOnly, WriteExclusiveAllRegistrants, ExclusiveAccessAllRegistrants}
 use Rattle.pr_registry.specs.declared.held.Held.TheVariants.{All}
 use Rattle.pr_interference.proofs.holders.Holders.of.Goals as goal

@@ -1,4 +1,4 @@
-use Rattle.pr_interference.proofs.Common.{◌≡◌, ◌+◌, sym, refl, ◌∙◌, subst, arith, view_in, count_of_reservations, Adds, PlaceLeads, FirstLeads, IsWatched, ClauseLeaves}
+use Rattle.pr_interference.proofs.Common.{◌≡◌, ◌+◌, sym, ◌∙◌, subst, arith, view_in, count_of_reservations, Adds, PlaceLeads, FirstLeads, IsWatched, ClauseLeaves}
 use Rattle.pr_interference.proofs.lemmas.Interfering.RoleEffects.{first_none, first_more, first_skips}
 use Rattle.pr_regions.proofs.lemmas.Showing.ShownStates.{is_place}
 use Rattle.pr_interference.proofs.lemmas.Reaching.Bounds.{adds_most}

@@ -1,4 +1,4 @@
-use Rattle.pr_interference.proofs.Common.{◌≡◌, ◌<◌, ◌==◌, ◌||◌, ◌&&◌, true, Some, None, sym, ap, ◌∙◌, subst, arith, nat_tests, has, has_at, number_in, One, is_held_by_all, is_told_of_loss}
+use Rattle.pr_interference.proofs.Common.{◌≡◌, ◌<◌, ◌==◌, ◌||◌, ◌&&◌, true, sym, ap, ◌∙◌, subst, arith, nat_tests, has, has_at, number_in, is_held_by_all, is_told_of_loss}
 use Rattle.pr_registry.specs.Registrations.{holds_alone}
 use Rattle.pr_interference.specs.inside.Reaching.{IsHeldAmong, MayAllGo}
 use Rattle.pr_interference.proofs.lemmas.Reaching.Bounds.{register_reach, unregister_reach, reserve_reach, release_reach, clear_reach, preempt_all_reach, preempt_key_reach}
