@@ -1,6 +1,7 @@
 pub mod BitPlaces
 pub mod BitSets
 pub mod Bits
+pub mod Fronts
 pub mod Lattice
 pub mod Lists
 pub mod Members

@@ -9,7 +9,7 @@ pub const BIT_SET_SIZE: u8 = 16;
 /// A set of numbers below 16, for reckoning with whole sets at a time.
 #[derive(Clone, Copy, PartialEq, Eq)]
 pub struct BitSet {
-    bits: u16,
+    pub(crate) bits: u16,
 }
 
 impl BitSet {

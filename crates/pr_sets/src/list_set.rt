@@ -10,6 +10,7 @@ ghost use Rattle.pr_sets.specs.Numbers.{most, AllBelow};
 ghost use Rattle.pr_sets.specs.Kept.{numbers_in};
 
 use crate::view_set::ViewSet;
+use crate::wide::Wide;
 use std::alloc::{AllocError, Global};
 
 /// A set that keeps its members as a sorted list, for comparison. It takes memory as it grows.
@@ -52,6 +53,16 @@ impl ViewSet for ListSet {
         }
     }
 
+    fn of_wide(alloc: Global, size: u8, word: Wide) -> Result<Self, AllocError> {
+        let mut list = ListSet::none(alloc, size);
+        for n in 0..size {
+            if word.has(n) {
+                list.add(n)?;
+            }
+        }
+        Ok(list)
+    }
+
     fn size(&self) -> u8 {
         self.size
     }
@@ -86,6 +97,16 @@ impl ViewSet for ListSet {
     fn next(&self, from: u8) -> Option<u8> {
         let at = self.numbers.partition_point(|n| *n < from);
         self.numbers.get(at).copied()
+    }
+
+    fn wide(&self) -> Wide {
+        let mut word = Wide::none();
+        for n in 0..self.size {
+            if self.has(n) {
+                word = word.with(n);
+            }
+        }
+        word
     }
 
     ghost below = { λ s. s.below };

@@ -1,9 +1,11 @@
 //! What a view asks of a set of possibilities.
 
-ghost use Rattle.std.specs.Prelude.{◌≡◌, ◌<◌, ◌≤◌, ◌↔◌, ℕ, IsTrue, OnOk, OnErr, IfSome, IfNone};
+ghost use Rattle.std.specs.Prelude.{◌≡◌, ◌<◌, ◌≤◌, ◌↔◌, ℕ, true, IsTrue, IfOk, OnOk, OnErr, IfSome, IfNone};
 ghost use Rattle.std.specs.FinSet as set;
 ghost use Rattle.pr_sets.specs.Numbers.{Numbers, most, AllBelow, Within, IsNext, HasNoneFrom};
+ghost use Rattle.pr_sets.specs.Wides.{has_wide};
 
+use crate::wide::Wide;
 use std::alloc::{AllocError, Global};
 
 /// The bound of every set: its members are below it.
@@ -20,6 +22,14 @@ pub trait ViewSet: Sized + Drop {
         requires few { size ≤ most }
         ensures members { members result ≡ set.empty }
         ensures room { room result ≡ size };
+
+    /// The set of a wide word's numbers, which are below `size`.
+    fn of_wide(alloc: Global, size: u8, word: Wide) -> Result<Self, AllocError>
+        requires few { size ≤ most }
+        requires below { (n : ℕ) → has_wide word n ≡ true → n < size }
+        ensures room { IfOk result (λ s. room s ≡ size) }
+        ensures members { IfOk result (λ s. (n : ℕ)
+            → set.contains (members s) n ≡ has_wide word n) };
 
     /// The bound below which the members are.
     fn size(&self) -> u8
@@ -58,6 +68,10 @@ pub trait ViewSet: Sized + Drop {
     fn next(&self, from: u8) -> Option<u8>
         ensures some { IfSome result (IsNext (members self.now) from) }
         ensures none { IfNone result (HasNoneFrom (members self.now) from) };
+
+    /// The members as a wide word.
+    fn wide(&self) -> Wide
+        ensures { (n : ℕ) → has_wide result n ≡ set.contains (members self.now) n };
 
     ghost below: { (s : Self) → AllBelow (room s) (members s) };
 

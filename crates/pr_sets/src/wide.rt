@@ -1,16 +1,20 @@
 //! A set of numbers below 128, as the bits of a wide word.
 
-ghost use Rattle.std.specs.Prelude.{◌≡◌, ◌<◌, ◌≤◌, ℕ, false, ◌==◌, ◌&&◌, ◌||◌, not, nat_lt, IsTrue};
+ghost use Rattle.std.specs.Prelude.{◌≡◌, ◌<◌, ◌≤◌, ℕ, true, false, ◌==◌, ◌&&◌, ◌||◌, not, nat_lt, IsTrue};
+ghost use Rattle.std.specs.FinSet as set;
 ghost use Rattle.pr_sets.specs.Numbers.{most};
+ghost use Rattle.pr_sets.specs.Kept.{numbers_of_bits};
+ghost use Rattle.pr_sets.specs.BitSets.{has, bit_set_size};
 ghost use Rattle.pr_sets.specs.Wides.{has_wide};
 
+use crate::bit_set::BitSet;
 use crate::view_set::MOST;
 
 /// A set of numbers below 128, for reckoning with whole sets at a time. Sets of numbers below 16 take an eighth of its room
 /// as a [`BitSet`](crate::BitSet).
 #[derive(Clone, Copy, PartialEq, Eq)]
 pub struct Wide {
-    bits: u128,
+    pub(crate) bits: u128,
 }
 
 impl Wide {
@@ -40,6 +44,32 @@ impl Wide {
         ensures { (m : ℕ) → has_wide result m ≡ (m == n) }
     {
         Wide { bits: 1 << n }
+    }
+
+    /// The numbers of a bit set.
+    pub fn of(numbers: BitSet) -> Self
+        ensures { (n : ℕ) → has_wide result n ≡ has numbers n }
+    {
+        Wide {
+            bits: u128::from(numbers.bits),
+        }
+    }
+
+    // The numbers whose bits are set.
+    pub(crate) fn of_bits(bits: u128) -> Self
+        ensures { (n : ℕ) → has_wide result n ≡ set.contains (numbers_of_bits bits) n }
+    {
+        Wide { bits }
+    }
+
+    /// The same numbers as a bit set, where they are few enough.
+    pub fn few(self) -> BitSet
+        requires { (n : ℕ) → has_wide self n ≡ true → n < bit_set_size }
+        ensures { (n : ℕ) → has result n ≡ has_wide self n }
+    {
+        BitSet {
+            bits: self.bits as u16,
+        }
     }
 
     /// The set and this number.

@@ -6,6 +6,7 @@ ghost use Rattle.pr_sets.specs.Numbers.{most, AllBelow};
 ghost use Rattle.pr_sets.specs.Kept.{numbers_of_bits};
 
 use crate::view_set::{MOST, ViewSet};
+use crate::wide::Wide;
 use std::alloc::{AllocError, Global};
 
 /// A set that has a bit of one word for each number. It takes no memory, so that `add` and `join` always answer `Ok`.
@@ -24,6 +25,13 @@ impl ViewSet for WordSet {
 
     fn none(_alloc: Global, size: u8) -> Self {
         WordSet { bits: 0, size }
+    }
+
+    fn of_wide(_alloc: Global, size: u8, word: Wide) -> Result<Self, AllocError> {
+        Ok(WordSet {
+            bits: word.bits,
+            size,
+        })
     }
 
     fn size(&self) -> u8 {
@@ -73,6 +81,10 @@ impl ViewSet for WordSet {
             return None;
         }
         Some(from + rest.trailing_zeros() as u8)
+    }
+
+    fn wide(&self) -> Wide {
+        Wide::of_bits(self.bits)
     }
 
     ghost below = { λ s. s.below };

@@ -5,7 +5,6 @@ ghost use Rattle.std.specs.List.{All};
 ghost use Rattle.std.specs.FinSet as set;
 ghost use Rattle.pr_sets.specs.Numbers.{most};
 ghost use Rattle.pr_sets.specs.BitSets.{has, bit_set_size};
-ghost use Rattle.pr_sets.specs.Wides.{has_wide};
 ghost use Rattle.pr_views.specs.Portions.{has_at};
 ghost use Rattle.pr_views.specs.Rooms.{contains_at};
 
@@ -36,29 +35,7 @@ pub(crate) fn set_of<S: ViewSet>(alloc: Global, size: u8, word: BitSet) -> Resul
     ensures room { IfOk result (λ s. S.room s ≡ size) }
     ensures members { IfOk result (λ s. (n : ℕ) → set.contains (S.members s) n ≡ has word n) }
 {
-    let mut numbers = S::none(alloc, size);
-    for n in 0..size {
-        if word.has(n) {
-            numbers.add(n)?;
-        }
-    }
-    Ok(numbers)
-}
-
-/// The set of a wide word's numbers, which are below the size.
-pub(crate) fn wide_set_of<S: ViewSet>(alloc: Global, size: u8, word: Wide) -> Result<S, AllocError>
-    requires few { size ≤ most }
-    requires below { (n : ℕ) → has_wide word n ≡ true → n < size }
-    ensures room { IfOk result (λ s. S.room s ≡ size) }
-    ensures members { IfOk result (λ s. (n : ℕ) → set.contains (S.members s) n ≡ has_wide word n) }
-{
-    let mut numbers = S::none(alloc, size);
-    for n in 0..size {
-        if word.has(n) {
-            numbers.add(n)?;
-        }
-    }
-    Ok(numbers)
+    S::of_wide(alloc, size, Wide::of(word))
 }
 
 /// Sets of numbers below a size, one for each nexus that there may be: those of the first words, and empty ones.
@@ -88,26 +65,7 @@ pub(crate) fn word_of<S: ViewSet>(numbers: &S) -> BitSet
     requires { S.room numbers.now ≤ bit_set_size }
     ensures { (n : ℕ) → has result n ≡ set.contains (S.members numbers.now) n }
 {
-    let mut word = BitSet::none();
-    for n in 0..numbers.size() {
-        if numbers.has(n) {
-            word = word.with(n);
-        }
-    }
-    word
-}
-
-/// The members of a set as a wide word.
-pub(crate) fn wide_of<S: ViewSet>(numbers: &S) -> Wide
-    ensures { (n : ℕ) → has_wide result n ≡ set.contains (S.members numbers.now) n }
-{
-    let mut word = Wide::none();
-    for n in 0..numbers.size() {
-        if numbers.has(n) {
-            word = word.with(n);
-        }
-    }
-    word
+    numbers.wide().few()
 }
 
 /// The members of the first sets as words. The others are empty.

@@ -7,9 +7,7 @@ ghost use Rattle.pr_roles.specs.Fitting.{AreDeclared};
 ghost use Rattle.pr_views.specs.Possibilities.{count_of_reservations, count_of_attentions};
 
 use crate::possibilities::Possibilities;
-use crate::sets::{
-    are_empty, are_within, empty_sets, set_of, sets_of, wide_of, wide_set_of, word_of, words_of,
-};
+use crate::sets::{are_empty, are_within, empty_sets, set_of, sets_of, word_of, words_of};
 use arrayvec::ArrayVec;
 use pr_cdb::codes::MOST_NEXUSES;
 use pr_roles::limits::MOST_KEYS;
@@ -108,7 +106,7 @@ impl<S: ViewSet> ViewOf<S> {
             hosts,
             &possibilities.registrations,
         )?;
-        let reservations = wide_set_of(
+        let reservations = S::of_wide(
             alloc,
             count_of_reservations(hosts),
             possibilities.reservations,
@@ -133,7 +131,7 @@ impl<S: ViewSet> ViewOf<S> {
     {
         Possibilities {
             registrations: words_of(&self.registrations, self.hosts),
-            reservations: wide_of(&self.reservations),
+            reservations: self.reservations.wide(),
             pending: word_of(&self.pending),
         }
     }

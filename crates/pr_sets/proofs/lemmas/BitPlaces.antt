@@ -1,11 +1,11 @@
 -- A set of numbers as the bits of a number, at each width.
 use mir.Val.{bits}
-use Rattle.std.proofs.Common.{◌≡◌, ◌≢◌, ◌⊎◌, inl, inr, ℕ, ◌-◌, ◌*◌, ◌/◌, ◌%◌, ◌^◌, ◌<◌, ◌≤◌, Bool, true, false, ◌==◌, ◌&&◌, ◌||◌, not, nat_lt, min, max, refl, sym, ap, ◌∙◌, arith, bit_or, bit_and}
+use Rattle.std.proofs.Common.{◌≡◌, ◌≢◌, ◌⊎◌, inl, inr, ℕ, ◌-◌, ◌*◌, ◌/◌, ◌%◌, ◌^◌, ◌<◌, ◌≤◌, Bool, true, false, ◌==◌, ◌&&◌, ◌||◌, not, nat_lt, nat_le, min, max, refl, sym, ap, ◌∙◌, arith, bit_or, bit_and}
 use Rattle.std.specs.Int.{Width, bit_at, bit_not}
 use Rattle.std.specs.FinSet as set
-use Rattle.std.proofs.lemmas.Bool.Decides.{nat_tests, eqb_tells}
+use Rattle.std.proofs.lemmas.Bool.Decides.{nat_tests, eqb_tells, leb_tells}
 use Rattle.std.proofs.lemmas.Nat.{pow_pos}
-use Rattle.std.proofs.lemmas.Nat.Bits.{bit_at_or, bit_at_and, bit_at_not, bit_at_set_same, bit_at_set_other, bit_at_clear_same, bit_at_clear_other, bit_at-zero, bit_at-lt, same_from_bits_below, shr_and_one}
+use Rattle.std.proofs.lemmas.Nat.Bits.{bit_at_above, bit_at_or, bit_at_and, bit_at_not, bit_at_set_same, bit_at_set_other, bit_at_clear_same, bit_at_clear_other, bit_at-zero, bit_at-lt, same_from_bits_below, shr_and_one}
 use Rattle.pr_sets.specs.Numbers.{Numbers}
 use Rattle.pr_sets.specs.Kept.{numbers_where}
 use Rattle.pr_sets.proofs.lemmas.Members.{same_numbers, contains-empty, contains-insert, contains-remove, contains-difference, contains-union, contains-numbers_where}
@@ -42,6 +42,14 @@ module _ (w : Width) where
       none : (l : Bool) → (l && false) ≡ false
       none true = refl
       none false = refl
+
+  -- every bit of a number that fits is one of its places
+  pub placed-has : (b q : ℕ) → b < 2 ^ bits w → (bit_at b q == 1) ≡ set.contains (placed b) q
+  placed-has b q fits = at (leb_tells (bits w) q)
+    where
+      at : ((nat_le (bits w) q ≡ true) × (bits w ≤ q)) ⊎ ((nat_le (bits w) q ≡ false) × (q < bits w)) → (bit_at b q == 1) ≡ set.contains (placed b) q
+      at (inl large) = ap (λ n. n == 1) (bit_at_above b (bits w) q fits large.1) ∙ sym (contains-placed_above b q large.1)
+      at (inr small) = sym (contains-placed_below b q small.1)
 
   pub placed-tested : (b q : ℕ) → q < bits w → (bit_and (b / 2 ^ q) 1 == 1) ≡ set.contains (placed b) q
   placed-tested b q small = ap (λ n. n == 1) (shr_and_one b q) ∙ sym (contains-placed_below b q small)

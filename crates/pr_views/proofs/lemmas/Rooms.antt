@@ -1,4 +1,3 @@
-pub mod Fronts
 pub mod Members
 pub mod Places
 pub mod Ranges

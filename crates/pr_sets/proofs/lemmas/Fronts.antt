@@ -1,9 +1,10 @@
 -- Tests that say of the numbers below a bound what another test says, and no of the rest.
-use Rattle.pr_views.proofs.Common.{◌≡◌, ℕ, ◌+◌, ◌<◌, Bool, true, false, ◌&&◌, ◌||◌, ◌≢◌, ◌⊎◌, nat_lt, ◌==◌, sym, refl, ap, ◌∙◌, inl, inr, arith, lt-ltb, le-ltb, nat_tests}
+use Rattle.std.proofs.Common.{◌≡◌, ◌≢◌, ◌⊎◌, ℕ, ◌+◌, ◌<◌, Bool, true, false, ◌==◌, ◌&&◌, ◌||◌, nat_lt, sym, refl, ap, ◌∙◌, inl, inr, arith}
 use Rattle.std.specs.FinSet as set
-use Rattle.std.proofs.lemmas.Bool.Decides.{eqb_tells}
-use Rattle.pr_registry.proofs.lemmas.Sets.{contains-insert}
+use Rattle.std.proofs.lemmas.Bool.{lt-ltb, le-ltb}
+use Rattle.std.proofs.lemmas.Bool.Decides.{nat_tests, eqb_tells}
 use Rattle.pr_sets.specs.Numbers.{Numbers}
+use Rattle.pr_sets.proofs.lemmas.Members.{contains-insert}
 
 -- q says what p says of each number below n, and no of the others
 abbrev pub IsFront : (ℕ → Bool) → (ℕ → Bool) → ℕ → Type 0
