@@ -18,5 +18,6 @@ pub use Rattle.pr_script.specs.declared.script.Statement.{Statement}
 pub use Rattle.pr_script.specs.inside.ArmLists.{arms_in}
 pub use Rattle.pr_script.specs.inside.Climbs.{last_of_climb}
 pub use Rattle.pr_script.specs.inside.Compiled.{IsCompiled, AreArmsCompiled}
-pub use Rattle.pr_script.specs.inside.Program.{place, step_at, IsStep, IsTable, open_configuration, configuration, deepest, AreLoops, IsPlaced}
+pub use Rattle.pr_script.specs.Programs.{place, open_configuration, configuration, deepest, AreLoops}
+pub use Rattle.pr_script.specs.inside.Program.{step_at, IsStep, IsTable, IsPlaced}
 unfoldable pub use Rattle.pr_script.specs.inside.Program.{meanings}

@@ -1,6 +1,8 @@
 pub mod Scripts
 pub mod Trees
 pub mod Takes
+pub mod Programs
+pub mod Positions
 pub mod Costs
 pub mod Depths
 pub mod Next

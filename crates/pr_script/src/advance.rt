@@ -4,7 +4,8 @@ ghost use Rattle.std.specs.Prelude.{◌≡◌, ℕ, ◌<◌, ◌≤◌, List, If
 ghost use Rattle.arrayvec.specs.ArrayVec.{array_vec_len};
 ghost use Rattle.pr_script.specs.declared.limits.TheConstants.{MOST_OPEN};
 ghost use Rattle.pr_script.specs.Scripts.{Stmts, none, before, turn, past_mark, becomes, settled_form};
-ghost use Rattle.pr_script.specs.inside.Program.{place, meanings, open_configuration, configuration, AreLoops, IsPlaced, IsMachine};
+ghost use Rattle.pr_script.specs.Programs.{place, open_configuration, configuration, AreLoops};
+ghost use Rattle.pr_script.specs.inside.Program.{meanings, IsPlaced, IsMachine};
 ghost use Rattle.pr_script.specs.inside.Advances.{Leads};
 
 use crate::limits::MOST_OPEN;
@@ -19,7 +20,7 @@ const MOST_LOOPS: usize = MOST_OPEN as usize;
 
 /// A repeat that is open: how often its body is still to run after this time, where the body begins, and
 /// what follows the repeat.
-#[derive(Clone, Copy, Default)]
+#[derive(Clone, Copy, Default, PartialEq, Eq, Hash)]
 pub(crate) struct LoopFrame {
     pub left: u32,
     pub body: usize,

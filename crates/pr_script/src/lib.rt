@@ -18,6 +18,7 @@ mod machine;
 mod matching;
 mod names;
 mod next;
+mod program;
 mod rows;
 mod script;
 mod sizes;
@@ -28,8 +29,9 @@ pub use grammar::{
     WRITTEN_LENGTH, is_declared, is_test_declared, is_written, is_written_key, stands_under,
 };
 pub use laws::{cost_bounds_sends, fitting_is_shallow, limits_agree, settles};
-pub use machine::{Machine, end_word};
+pub use machine::Machine;
 pub use names::is_name;
 pub use next::{Next, NoArm};
+pub use program::{Position, Program, end_word};
 pub use script::{Arm, Script, Statement, Test, Word};
 pub use sizes::cost;

@@ -1,4 +1,5 @@
 pub mod OpenRepeats
 pub mod Places
+pub mod Standing
 pub mod Successors
 pub mod Tables

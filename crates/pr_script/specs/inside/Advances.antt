@@ -3,7 +3,7 @@ use Rattle.std.specs.Prelude.{◌≡◌, ◌<◌, ◌≤◌, Some}
 use Rattle.pr_cdb.specs.declared.reply.Reply.{Reply}
 use Rattle.pr_script.specs.Scripts.{Configuration, work, settled_form}
 use Rattle.pr_script.specs.Takes.{take}
-use Rattle.pr_script.specs.inside.Program.{deepest}
+use Rattle.pr_script.specs.Programs.{deepest}
 
 -- What is still to do became something else by unfoldings.
 pub record Leads (old new : Configuration) : Type 0 where

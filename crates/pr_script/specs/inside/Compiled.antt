@@ -4,7 +4,8 @@ use Rattle.pr_script.specs.declared.rows.Instruction.{Instruction}
 use Rattle.pr_script.specs.declared.rows.Operation.{Operation}
 use Rattle.pr_script.specs.declared.rows.ArmTarget.{ArmTarget}
 use Rattle.pr_script.specs.Scripts.{Stmt, Stmts, Arms}
-use Rattle.pr_script.specs.inside.Program.{concatenation, place, arms_at, step_at, meanings, AreJumps, IsStep, IsTable}
+use Rattle.pr_script.specs.Programs.{place}
+use Rattle.pr_script.specs.inside.Program.{concatenation, arms_at, step_at, meanings, AreJumps, IsStep, IsTable}
 
 -- A longer table, in which what was to do from each place on still is.
 pub record Grows (old new : List Instruction) : Type 0 where

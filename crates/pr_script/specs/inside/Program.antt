@@ -1,13 +1,13 @@
--- What the rows of a table mean, and what is still to do at a place of it.
-use Rattle.std.specs.Prelude.{◌≡◌, ℕ, zero, suc, ◌+◌, ◌-◌, ◌<◌, ◌≤◌, List, [], ◌∷◌, ◌++◌, length, fold, max, slice_index_or}
+-- What the rows of a table mean.
+use Rattle.std.specs.Prelude.{◌≡◌, ℕ, zero, suc, ◌+◌, ◌-◌, ◌<◌, ◌≤◌, List, [], ◌∷◌, ◌++◌, length, fold, slice_index_or}
 use Rattle.pr_script.specs.declared.rows.Instruction.{Instruction}
 use Rattle.pr_script.specs.declared.rows.Operation.{Operation}
 use Rattle.pr_script.specs.declared.rows.Operation.TheVariants.{Send, Repeat, Break, Stop}
 use Rattle.pr_script.specs.declared.rows.ArmTarget.{ArmTarget}
 use Rattle.pr_script.specs.declared.advance.LoopFrame.{LoopFrame}
 use Rattle.pr_script.specs.declared.limits.TheConstants.{MOST_OPEN}
-use Rattle.pr_script.specs.Scripts.{Stmt, Stmts, Arms, sends, repeats, breaks, stops, none, more, no_arm, arm, statement, mark, Configuration, before, becomes}
-use Rattle.pr_script.specs.Depths.{depth_of}
+use Rattle.pr_script.specs.Scripts.{Stmt, Stmts, Arms, sends, repeats, breaks, stops, none, more, no_arm, arm, becomes}
+use Rattle.pr_script.specs.Programs.{place, configuration, deepest, AreLoops}
 
 -- ---- parts of a list of statements
 
@@ -29,9 +29,6 @@ abbrev pub without_end : Stmts → Stmts → Stmts
 without_end whole end = first_statements (size whole - size end) whole
 
 -- ---- the statements from each place on
-
-abbrev pub place : List Stmts → ℕ → Stmts
-place ms k = slice_index_or ms k none
 
 abbrev pub arms_at : List Stmts → ℕ → List ArmTarget → Arms
 arms_at ms next [] = no_arm
@@ -77,32 +74,6 @@ pub record IsTable (rows : List Instruction) : Type 0 where
   pub row : (k : ℕ) (row : Instruction) → k < length rows → row ≡ slice_index_or rows k row → IsRow (meanings rows) k row
 
 -- ---- what is still to do
-
--- what is to do once the body of the innermost open repeat has ended
-abbrev pub opened_by : List Stmts → Configuration → LoopFrame → Configuration
-opened_by ms l o = mark ∷ statement (repeats o.left (place ms o.body)) ∷ before (place ms o.next) l
-
-abbrev pub open_configuration : List Stmts → List LoopFrame → Configuration
-open_configuration ms opens = fold (opened_by ms) [] opens
-
-abbrev pub configuration : List Stmts → ℕ → List LoopFrame → Configuration
-configuration ms at opens = before (place ms at) (open_configuration ms opens)
-
--- how many repeats are open
-abbrev pub open_count : Configuration → ℕ
-open_count [] = 0
-open_count ((statement s) ∷ l) = open_count l
-open_count (mark ∷ l) = 1 + open_count l
-
--- the most repeats that are still to be open at once
-abbrev pub deepest : Configuration → ℕ
-deepest [] = 0
-deepest ((statement s) ∷ l) = max (open_count l + depth_of s) (deepest l)
-deepest (mark ∷ l) = max (1 + open_count l) (deepest l)
-
-abbrev pub AreLoops : ℕ → List LoopFrame → Type 0
-AreLoops top [] = Unit {0}
-AreLoops top (o ∷ os) = (o.body ≤ top) × (o.next ≤ top) × AreLoops top os
 
 -- The place and the open repeats are of this table, and there is room for all that are still to be open.
 pub record IsPlaced (rows : List Instruction) (at : ℕ) (opens : List LoopFrame) : Type 0 where

@@ -4,6 +4,7 @@ use Rattle.std.specs.Coded.{Coded, code_by, coded_list}
 use Rattle.std.proofs.Common.{◌∙◌, ap}
 use Rattle.pr_cdb.specs.declared.command.Command.{Command}
 use Rattle.pr_script.specs.declared.script.Test.{Test}
+use Rattle.pr_script.specs.Programs.{Places}
 use Rattle.pr_script.specs.Scripts.{Stmt, Stmts, Arms, sends, repeats, breaks, stops, none, more, no_arm, arm, Item, statement, mark, Configuration}
 
 -- Each token makes one part of those that were made last.
@@ -89,3 +90,19 @@ item_of-tokens mark = refl
 -- what is still to do is stored as the tokens of its items
 abbrev pub configuration_code : Coded Token → Coded Configuration
 configuration_code code = coded_list (code_by (List Token) (coded_list code) tokens_of_item item_of item_of-tokens)
+
+-- ---- lists of statements
+
+abbrev pub stmts_of_parts : List Part → Stmts
+stmts_of_parts ((the_stmts b) ∷ ps) = b
+stmts_of_parts _ = none
+
+abbrev pub stmts_of : List Token → Stmts
+stmts_of ts = stmts_of_parts (made_of_all ts [])
+
+pub stmts_of-tokens : (b : Stmts) → stmts_of (tokens_of_all b []) ≡ b
+stmts_of-tokens b = ap stmts_of_parts (made-tokens_of_all b [] [])
+
+-- what is to do from each place of a program on is stored as the tokens of its statements
+abbrev pub places_code : Coded Token → Coded Places
+places_code code = coded_list (code_by (List Token) (coded_list code) (λ b. tokens_of_all b []) stmts_of stmts_of-tokens)

@@ -1,7 +1,7 @@
 -- What the repeats that are open lead to.
 use Rattle.pr_script.proofs.Common.{◌≡◌, ℕ, zero, suc, ◌+◌, ◌≤◌, max, List, [], ◌∷◌, ◌++◌, length, drop, refl, ◌∙◌, arith, depth_of_all, repeats, breaks, Stmts, none, more, statement, mark, Configuration, before, turn, past_mark, LoopFrame, place, open_configuration, deepest, AreLoops}
 use Rattle.std.specs.Prelude.{fold}
-use Rattle.pr_script.specs.inside.Program.{opened_by, open_count}
+use Rattle.pr_script.specs.Programs.{opened_by, open_count}
 use Rattle.pr_script.specs.inside.Advances.{Leads}
 use Rattle.pr_script.proofs.lemmas.Next.Settlement.{settled-becomes, work-turn, work-past_mark}
 

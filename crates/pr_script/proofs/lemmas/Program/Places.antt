@@ -4,7 +4,8 @@ use Rattle.std.specs.Prelude.{◌⊎◌, fold}
 use Rattle.std.proofs.lemmas.List.{length-append}
 use Rattle.std.proofs.Math.ListN.{get_or-append}
 use Rattle.std.proofs.lemmas.List.Sums.{fold-append}
-use Rattle.pr_script.specs.inside.Program.{row_at, with_row, IsRow, opened_by, IsMachine}
+use Rattle.pr_script.specs.Programs.{opened_by}
+use Rattle.pr_script.specs.inside.Program.{row_at, with_row, IsRow, IsMachine}
 use Rattle.pr_script.proofs.lemmas.Next.Settlement.{no_mark_rests}
 
 -- ---- one row more

@@ -8,7 +8,8 @@ use Rattle.pr_script.specs.declared.rows.Operation.TheVariants.{Send}
 use Rattle.pr_script.specs.declared.rows.ArmTarget.{ArmTarget}
 use Rattle.pr_script.specs.Scripts.{IsReady}
 use Rattle.pr_script.specs.Takes.{first_match, take}
-use Rattle.pr_script.specs.inside.Program.{concatenation, without_end, arms_at, open_count, AreJumps}
+use Rattle.pr_script.specs.Programs.{open_count}
+use Rattle.pr_script.specs.inside.Program.{concatenation, without_end, arms_at, AreJumps}
 use Rattle.pr_script.specs.inside.Advances.{TakesBody}
 use Rattle.pr_script.proofs.lemmas.Program.Places.{place-zero, place-row, the_row, opened-unready}
 use Rattle.pr_script.proofs.lemmas.Program.OpenRepeats.{deepest-before}
