@@ -1,3 +1,4 @@
+pub mod AlikeData
 pub mod CommandRoundTrip
 pub mod FieldRanges
 pub mod ReplyRoundTrip
