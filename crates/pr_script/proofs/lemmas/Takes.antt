@@ -1,1 +1,2 @@
+pub mod AlikeReplies
 pub mod Replies
