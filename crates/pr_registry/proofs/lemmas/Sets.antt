@@ -1,5 +1,5 @@
 -- What sets of hosts and registrations contain, and that these are equal where they contain the same.
-use Rattle.pr_registry.proofs.Common.{◌≡◌, ℕ, zero, suc, ◌+◌, Bool, true, false, cond, not, ◌&&◌, is_some, if◌then◌else◌, IsTrue, nat_lt, ◌==◌, Some, None, Option, sym, refl, ap, ◌∙◌, Hosts, Keys, nobody, just, is_key, is_empty, hosts_in, hosts_with, map_where, hosts_where}
+use Rattle.pr_registry.proofs.Common.{◌≡◌, ℕ, zero, suc, ◌+◌, Bool, true, false, cond, not, ◌&&◌, is_some, if◌then◌else◌, IsTrue, nat_lt, ◌==◌, Some, None, Option, sym, refl, ap, ◌∙◌, false≢true, Hosts, Keys, nobody, just, is_key, is_empty, hosts_in, hosts_with, map_where, hosts_where}
 use Rattle.std.proofs.Common.{◌↔◌, ◌||◌, add-one}
 use Rattle.std.specs.Ordering.{nat_cmp}
 use Rattle.std.specs.Cmp.{nat_cmp_total, unsigned_tied}
@@ -98,6 +98,10 @@ contains-hosts_with keys k q =
     there : (o : Option ℕ) → (is_some o && is_key o k) ≡ is_key o k
     there None = refl
     there (Some j) = refl
+
+pub key_is : (o : Option ℕ) (k : ℕ) → is_key o k ≡ true → o ≡ Some k
+key_is None k is = absurd (false≢true is)
+key_is (Some j) k is = ap Some (same_at j k is)
 
 -- ---- none at all
 

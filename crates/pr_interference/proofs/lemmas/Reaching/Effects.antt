@@ -11,7 +11,7 @@ use Rattle.pr_registry.specs.Hosts.{Keys, just, without, hosts_with, is_key, is_
 use Rattle.pr_registry.specs.Registrations.{holds_alone, is_holder_of}
 use Rattle.pr_registry.specs.Changes.{Case, ReplacesAll, ReplacesHolder, RemovesKey, no_change, is_held_as, is_released, preempt_case, change_on_unregister, change_on_release, change_on_clear, change_on_preempt}
 use Rattle.pr_registry.specs.Effects.{with_registration as register, held_by_rest, held_or, with_reservation, after_release, without_registration, after_clear, after_preempt}
-use Rattle.pr_registry.proofs.lemmas.Sets.{get-without, contains-hosts_with, not_empty_from_some}
+use Rattle.pr_registry.proofs.lemmas.Sets.{get-without, contains-hosts_with, key_is, not_empty_from_some}
 use Rattle.pr_views.specs.Possibilities.{key_at}
 use Rattle.pr_regions.specs.Transitions.{never}
 use Rattle.pr_regions.specs.inside.Parts.{is_of_registrant, told_if, told_but, lost_if}
@@ -298,12 +298,8 @@ module _ (s : Scope) (from : ℕ) (reach : Reach) (u : UnitState) where
         holder_of held None stands is = let bad : RemovesKey ≡ ReplacesHolder held = is in cc
         holder_of held (Some (One old g)) stands is = by (is_key (map.get u.registry.keys g) k) refl is
           where
-            keyed : (o : Option ℕ) → is_key o k ≡ true → o ≡ Some k
-            keyed None is = absurd (false≢true is)
-            keyed (Some m) is = let same : m ≡ k = grind (arith, nat_tests) in ap (λ n. Some n) same
-
             by : (b : Bool) → is_key (map.get u.registry.keys g) k ≡ b → (if b then ReplacesHolder old else RemovesKey) ≡ ReplacesHolder held → HasHolder held
-            by true keys is = let same : old ≡ held = cc in (g, stands ∙ ap (λ x. Some (One x g)) same, keyed (map.get u.registry.keys g) keys)
+            by true keys is = let same : old ≡ held = cc in (g, stands ∙ ap (λ x. Some (One x g)) same, key_is (map.get u.registry.keys g) k keys)
             by false keys is = let bad : RemovesKey ≡ ReplacesHolder held = is in cc
         holder_of held (Some (All old)) stands is = let bad : RemovesKey ≡ ReplacesHolder held = sym (ap (λ b. if b then ReplacesAll else RemovesKey) nonzero) ∙ is in cc
 
