@@ -1,6 +1,7 @@
 pub mod FirstStarts
 pub mod Fitting
 pub mod Laws
+pub mod Safety
 pub mod Schedules
 pub mod Starts
 pub mod Worlds

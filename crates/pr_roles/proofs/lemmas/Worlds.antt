@@ -1,4 +1,6 @@
+pub mod AlikeReplies
 pub mod Controls
+pub mod Counts
 pub mod Refusals
 pub mod Resets
 pub mod SpelledBytes

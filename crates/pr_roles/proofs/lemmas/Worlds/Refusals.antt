@@ -26,7 +26,7 @@ told how.Full how.Plain u h q r v is = (steps_are_never_busy u h q r v is).1
 told how.Busy _ u h q r v is = ap (λ x. is_busy_status x.status) is.0
 told how.Full _ u h q r v is = ap (λ x. is_full_status x.status) is.0
 
-counted_more : (es : List Item) (e : Entry) (h : ℕ) (how : How) → refusals_by (es ++ Sent e ∷ []) h how ≡ refusals_by es h how + cond (e.host == h && is_refusal how e.reply) 1 0
+pub counted_more : (es : List Item) (e : Entry) (h : ℕ) (how : How) → refusals_by (es ++ Sent e ∷ []) h how ≡ refusals_by es h how + cond (e.host == h && is_refusal how e.reply) 1 0
 counted_more es e h how = sum_by_push (λ x. cond (is_refused h how x) 1 0) es (Sent e)
 
 pub refused_more : (s : Scenario) (w : World) (e : Event) (v : World) → Happens s w e v → (h : ℕ) (how : How)

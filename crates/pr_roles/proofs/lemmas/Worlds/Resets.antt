@@ -6,6 +6,7 @@ use Rattle.std.proofs.lemmas.Bool.{or_cases}
 use Rattle.std.proofs.lemmas.List.Sums.{sum_by_push, sum_by-cons}
 use Rattle.pr_cdb.specs.Spelling.{spelling}
 use Rattle.pr_roles.specs.declared.limits.TheConstants.{MOST_RESETS}
+use Rattle.pr_roles.specs.declared.entry.Entry.{Entry}
 use Rattle.pr_roles.specs.declared.item.Item.{Item}
 use Rattle.pr_roles.specs.declared.item.Item.TheVariants.{Sent, Reset}
 use Rattle.pr_roles.specs.Fitting.{are_resets}
@@ -17,6 +18,10 @@ resets-cons e es = sum_by-cons (λ x. cond (is_reset x) 1 0) e es
 
 pub resets-push : (es : List Item) (e : Item) → resets_in (es ++ e ∷ []) ≡ resets_in es + cond (is_reset e) 1 0
 resets-push es e = sum_by_push (λ x. cond (is_reset x) 1 0) es e
+
+-- a command resets nothing
+pub resets_same : (es : List Item) (e : Entry) → resets_in (es ++ Sent e ∷ []) ≡ resets_in es
+resets_same es e = omega (arith, resets-push es (Sent e))
 
 pub resets_more : (s : Scenario) (w : World) (e : Event) (v : World) → Happens s w e v → resets_in v.history ≡ resets_in w.history + cond (is_reset_event e) 1 0
 resets_more s w (Host g other) v sends = ap (λ (x : World). resets_in x.history) sends.world ∙ resets-push w.history (Sent (entry_of g (spelling sends.command) sends.reply))
