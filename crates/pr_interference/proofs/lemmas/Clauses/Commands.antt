@@ -1,6 +1,7 @@
 -- What a command that a clause names asks for, and a command of each clause.
 use Rattle.pr_interference.proofs.Common.{◌≡◌, ℕ, Bool, true, false, ◌&&◌, ◌⊎◌, List, if◌then◌else◌, ◌==◌, Some, None, Option, sym, refl, ap, ◌∙◌, subst, inl, inr, arith, false≢true, and_parts, nat_tests, Command, Kind, Plain, is_kind, is_told_of_loss, kind_of, IsKey, Held, request_looks, UnitState, effect, is_declared, is_action, AreDeclared, names, Action, number_in, purpose_of_preempt, purpose_of, Purpose, Register, Unregister, Reserve, Release, Clear, is_pending_after, contains-told, IsLike, purpose_for}
 use Rattle.std.specs.FinSet as set
+use Rattle.std.proofs.lemmas.Bool.{and_right, eqb-true}
 use Rattle.pr_cdb.specs.declared.command.Kind.TheVariants.{WriteExclusive}
 use Rattle.pr_cdb.specs.declared.command.Command.TheVariants as command
 use Rattle.pr_cdb.specs.Kinds.{code_of, kind_of_code}
@@ -19,20 +20,14 @@ unfolding kind_of_code
 kind_back WriteExclusive = refl
 kind_back _ = refl
 
-same_number : (a b : ℕ) → (a == b) ≡ true → a ≡ b
-same_number a b is = grind (arith, nat_tests)
-
-itself : (a : ℕ) → (a == a) ≡ true
-itself a = grind (arith, nat_tests)
-
 pub same_kind : (s t : Kind) → is_kind s t ≡ true → s ≡ t
 same_kind s t is =
-    let both : Some s ≡ Some t = sym (kind_back s) ∙ ap kind_of_code (same_number (code_of s) (code_of t) is) ∙ kind_back t in cc
+    let both : Some s ≡ Some t = sym (kind_back s) ∙ ap kind_of_code (eqb-true (code_of s) (code_of t) is) ∙ kind_back t in cc
 
 pub declared_key : (keys : List ℕ) (key : ℕ) → AreDeclared keys → is_declared keys key ≡ true → IsKey key
 declared_key keys key declared is =
     let found = any_found (λ k. k == key) keys is in
-    subst IsKey (found.there ∙ same_number found.element key found.is) (declared.each found.place found.element found.below)
+    subst IsKey (found.there ∙ eqb-true found.element key found.is) (declared.each found.place found.element found.below)
 
 not_zero : (key : ℕ) → IsKey key → (key == 0) ≡ false
 not_zero key is = let some = is.0 in grind (arith, nat_tests)
@@ -44,7 +39,7 @@ pub record IsMeant (keys : List ℕ) (a : Action) (held : Option Held) (c : Comm
   pub meant : purpose_for keys a held ≡ Some purpose
   pub asked : purpose_of keys c ≡ Some purpose
 
-abbrev HasNoEffect : UnitState → ℕ → Command → Type 0
+abbrev pub HasNoEffect : UnitState → ℕ → Command → Type 0
 HasNoEffect u h c = (own : ℕ) → IsLike own u (effect u h c)
 
 no_told : (told : Hosts) (b : Bool) → b ≡ false → (q : ℕ) → set.contains (if b then told else nobody) q ≡ false
@@ -67,29 +62,21 @@ unreleased u h rk kind none own = record {
       ∙ no_more (set.contains u.pending (own, code)) code;
 }
 
-releases : (keys : List ℕ) (u : UnitState) (h rk : ℕ) (kind : Kind) (held : Option Held) → u.registry.held ≡ held
-    → IsMeant keys action.Release held (command.Release rk kind) ⊎ HasNoEffect u h (command.Release rk kind)
-releases keys u h rk kind None is = inr (unreleased u h rk kind (ap (λ v. is_holder u.registry h && is_held_as v kind) is ∙ and_false (is_holder u.registry h)))
+-- a RELEASE is of the reservation that is held, or releases nothing
+pub held_or_unreleased : (u : UnitState) (h rk : ℕ) (kind : Kind) (held : Option Held) → u.registry.held ≡ held → ((v : Held) × (held ≡ Some v) × (kind_of v ≡ kind)) ⊎ HasNoEffect u h (command.Release rk kind)
+held_or_unreleased u h rk kind None is = inr (unreleased u h rk kind (ap (λ v. is_holder u.registry h && is_held_as v kind) is ∙ and_right (is_holder u.registry h) false refl))
+held_or_unreleased u h rk kind (Some v) is = at (is_kind (kind_of v) kind) refl
   where
-    and_false : (b : Bool) → (b && false) ≡ false
-    and_false true = refl
-    and_false false = refl
-releases keys u h rk kind (Some v) is = at (is_kind (kind_of v) kind) refl
-  where
-    and_false : (b : Bool) → (b && false) ≡ false
-    and_false true = refl
-    and_false false = refl
+    at : (b : Bool) → is_kind (kind_of v) kind ≡ b → ((w : Held) × (Some v ≡ Some w) × (kind_of w ≡ kind)) ⊎ HasNoEffect u h (command.Release rk kind)
+    at true same = inl (v, refl, same_kind (kind_of v) kind same)
+    at false other = inr (unreleased u h rk kind (ap (λ w. is_holder u.registry h && is_held_as w kind) is ∙ and_right (is_holder u.registry h) (is_kind (kind_of v) kind) other))
 
-    at : (b : Bool) → is_kind (kind_of v) kind ≡ b → IsMeant keys action.Release (Some v) (command.Release rk kind) ⊎ HasNoEffect u h (command.Release rk kind)
-    at true same = inl (record { purpose = Release (kind_of v); meant = refl; asked = ap (λ k. Some (Release k)) (sym (same_kind (kind_of v) kind same)) })
-    at false other = inr (unreleased u h rk kind (ap (λ w. is_holder u.registry h && is_held_as w kind) is ∙ ap (λ b. is_holder u.registry h && b) other ∙ and_false (is_holder u.registry h)))
-
-alone : (b : Bool) → (b && true) ≡ true → b ≡ true
+pub alone : (b : Bool) → (b && true) ≡ true → b ≡ true
 alone b is = (and_parts b true is).0
 
 pub registers_key : (keys : List ℕ) (sark key : ℕ) → AreDeclared keys → is_declared keys key ≡ true → (sark == key) ≡ true → Some (purpose_of_register keys sark) ≡ Some (Register (number_in keys key))
 registers_key keys sark key declared is same =
-    ap (λ k. Some (purpose_of_register keys k)) (same_number sark key same)
+    ap (λ k. Some (purpose_of_register keys k)) (eqb-true sark key same)
     ∙ ap (λ b. Some (if b then Unregister else Register (number_in keys key))) (not_zero key (declared_key keys key declared is))
 
 unregisters : (keys : List ℕ) (sark : ℕ) → (sark == 0) ≡ true → Some (purpose_of_register keys sark) ≡ Some Unregister
@@ -98,13 +85,17 @@ unregisters keys sark same = ap (λ b. Some (if b then Unregister else Register 
 preempts_key : (keys : List ℕ) (sark key : ℕ) (k t : Kind) → (sark == key && (is_kind k t && true)) ≡ true → Some (purpose_of_preempt keys sark k) ≡ Some (purpose_of_preempt keys key t)
 preempts_key keys sark key k t is =
     let parts = and_parts (sark == key) (is_kind k t && true) is in
-    (λ i. Some (purpose_of_preempt keys (same_number sark key parts.0 i) (same_kind k t (alone (is_kind k t) parts.1) i)))
+    (λ i. Some (purpose_of_preempt keys (eqb-true sark key parts.0 i) (same_kind k t (alone (is_kind k t) parts.1) i)))
 
 is_meant : (keys : List ℕ) (a : Action) (c : Command) (u : UnitState) (p : Purpose) → purpose_for keys a u.registry.held ≡ Some p → purpose_of keys c ≡ Some p → IsMeant keys a u.registry.held c
 is_meant keys a c u p meant asked = record { purpose = p; meant = meant; asked = asked }
 
 released_as : (keys : List ℕ) (u : UnitState) (h rk : ℕ) (kind : Kind) → IsMeant keys action.Release u.registry.held (command.Release rk kind) ⊎ HasNoEffect u h (command.Release rk kind)
-released_as keys u h rk kind = releases keys u h rk kind u.registry.held refl
+released_as keys u h rk kind = by (held_or_unreleased u h rk kind u.registry.held refl)
+  where
+    by : ((v : Held) × (u.registry.held ≡ Some v) × (kind_of v ≡ kind)) ⊎ HasNoEffect u h (command.Release rk kind) → IsMeant keys action.Release u.registry.held (command.Release rk kind) ⊎ HasNoEffect u h (command.Release rk kind)
+    by (inl x) = inl (is_meant keys action.Release (command.Release rk kind) u (Release (kind_of x.0)) (ap (purpose_for keys action.Release) x.1) (ap (λ k. Some (Release k)) (sym x.2)))
+    by (inr none) = inr none
 
 -- a service action that a clause names asks for what the clause means, or has no effect
 pub meant : (keys : List ℕ) (a : Action) (c : Command) (u : UnitState) (h : ℕ) → AreDeclared keys → is_action keys a ≡ true → request_looks (Plain c) ≡ false → names a c ≡ true

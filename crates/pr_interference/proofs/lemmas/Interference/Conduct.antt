@@ -85,7 +85,7 @@ pub record Serves (c : Command) : Type 0 where
   pub acts : is_request_sense (Plain c) ≡ false
   pub looks : request_looks (Plain c) ≡ false
 
-looks_or_serves : (c : Command) → IsTrue (request_looks (Plain c)) ⊎ Serves c
+pub looks_or_serves : (c : Command) → IsTrue (request_looks (Plain c)) ⊎ Serves c
 looks_or_serves (command.Register rk sark) = inr (record { clause = refl; acts = refl; looks = refl })
 looks_or_serves (command.RegisterIgnore sark) = inr (record { clause = refl; acts = refl; looks = refl })
 looks_or_serves (command.Reserve rk kind) = inr (record { clause = refl; acts = refl; looks = refl })
