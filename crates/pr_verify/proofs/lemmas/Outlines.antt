@@ -1,5 +1,4 @@
 pub mod Checks
-pub mod Controls
 pub mod LineOrder
 pub mod Lookups
 pub mod UnnoticedCommands

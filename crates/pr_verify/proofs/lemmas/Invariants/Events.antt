@@ -7,15 +7,14 @@ use Rattle.pr_cdb.proofs.lemmas.FieldRanges.{reads_fit}
 use Rattle.pr_script.specs.Scripts.{ready, first_configuration}
 use Rattle.pr_roles.specs.declared.item.Item.{Item}
 use Rattle.pr_roles.specs.Scenarios.{Planned}
-use Rattle.pr_roles.specs.Worlds.{Going, Free, Event, Guest, UnitReset, HostSends, GuestSends, IsReset, Happens, Run, after_reset, going_or_trapped, is_guest_task, commands_by, standing_of, entry_of, may_reset}
+use Rattle.pr_roles.specs.Worlds.{Going, Free, Event, Guest, UnitReset, HostSends, GuestSends, IsReset, Happens, Run, after_reset, control_after, going_or_trapped, is_guest_task, commands_by, standing_of, entry_of, may_reset}
 use Rattle.pr_roles.specs.Permits.{is_permitted}
 use Rattle.pr_roles.specs.Safety.{KeepsRole}
 use Rattle.pr_unit.specs.Replies.{is_good}
-use Rattle.pr_roles.proofs.lemmas.Worlds.Controls.{there, at_start as begins}
+use Rattle.pr_roles.proofs.lemmas.Worlds.Controls.{there, at_start as begins, nobody_at_start, control_other, control_own}
+use Rattle.pr_roles.proofs.lemmas.Worlds.Counts.{sent_other, sent_own, sent_reset}
 use Rattle.pr_verify.specs.inside.Invariants.{IsTurn, IsTaken, IsInvariant, HaveInvariants}
-use Rattle.pr_verify.proofs.lemmas.Laws.Budgets.{sent_other, sent_own, sent_reset}
 use Rattle.pr_verify.proofs.lemmas.Outlines.UnnoticedCommands.{noticed}
-use Rattle.pr_verify.proofs.lemmas.Outlines.Controls.{nobody_at_start, control_other, control_going, control_free}
 
 -- ---- what is kept
 
@@ -99,7 +98,7 @@ own_kept : (s : Scenario) (w : World) (h : ℕ) (script : Stmts) (budget : ℕ) 
 own_kept s w h script budget Holds x line c r u taken = record {
   invariant = x.invariant;
   rest = taken.rest;
-  going = control_going w h line (spelling c) r u x.rest x.going ∙ ap (going_or_trapped line) taken.arm;
+  going = control_own w h line (spelling c) r u ∙ ap (λ k. control_after line k r) x.going ∙ ap (going_or_trapped line) taken.arm;
   holds = taken.holds;
   within = subst (λ n. n ≤ budget) (sym (sent_own w.history (entry_of h (spelling c) r) h refl)) taken.within;
 }
@@ -147,7 +146,7 @@ guest_kept s Holds w g wire k v happens kept = at (task s g) refl happens.guest 
         let u = happens.unit in
         let fits = subst FitsWhereRead happens.read (reads_fit wire.cdb.items wire.params.items happens.bytes.0 happens.bytes.1) in
         let left = after w g 0 wire r u in
-        let mine = subst (λ t. IsKeptBy t s Holds left g) (sym is) (control_free w g 0 wire r u free) in
+        let mine = subst (λ t. IsKeptBy t s Holds left g) (sym is) (control_own w g 0 wire r u ∙ ap (λ k. control_after 0 k r) free) in
         let all = all_kept s Holds g w 0 wire r u (there s g (Planned commands) is) (noticed (role s g) k g w.unit q r u fits happens.answer happens.permitted) kept mine in
         subst (IsKept s Holds) (sym happens.world) all
     at _ is guest _ = absurd (false≢true guest)

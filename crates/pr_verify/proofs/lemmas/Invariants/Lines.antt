@@ -1,6 +1,6 @@
 -- What is said of each line of a script, by a view or by anything else, is an invariant of its host, where it is true of what sound
 -- and fitting outlines ask. Outlines are the case of one view a line.
-use Rattle.pr_verify.proofs.Common.{◌≡◌, ℕ, ◌+◌, ◌<◌, ◌≤◌, true, false, ◌≢◌, ◌⊎◌, List, [], ◌∷◌, length, IsTrue, nat_lt, ◌==◌, Some, None, Contains, Option, sym, refl, ap, ◌∙◌, subst, inl, inr, arith, false≢true, Command, Reply, Plain, Step, UnitState, cost_of_all, Stmts, Configuration, Answers, Answered, refusals_of, command_permitted, role, Scenario, IsAllowedStart, How, IsDone, Becomes, by_another, by_reset, IsShownAt, at_start, by_itself, by_others, HasOutline, SendsFit, Place, places_of, first_lines, follows}
+use Rattle.pr_verify.proofs.Common.{◌≡◌, ℕ, ◌+◌, ◌<◌, ◌≤◌, true, ◌≢◌, ◌⊎◌, List, [], ◌∷◌, length, IsTrue, nat_lt, ◌==◌, Some, None, Contains, Option, sym, refl, ap, ◌∙◌, subst, inl, inr, arith, false≢true, Command, Reply, Plain, Step, UnitState, cost_of_all, Stmts, Configuration, Answers, Answered, refusals_of, command_permitted, role, Scenario, IsAllowedStart, How, IsDone, Becomes, by_another, by_reset, IsShownAt, at_start, by_itself, by_others, HasOutline, SendsFit, Place, places_of, first_lines, follows}
 use Rattle.std.specs.Prelude.{IsSome, not}
 use Rattle.std.proofs.lemmas.Bool.Decides.{nat_tests}
 use Rattle.pr_cdb.specs.Ranges.{Fits}
@@ -12,14 +12,14 @@ use Rattle.pr_roles.specs.declared.item.Item.{Item}
 use Rattle.pr_roles.specs.Answers.{refusals_by, most_refusals, may_come}
 use Rattle.pr_roles.specs.DeclaredRefusals.{is_among}
 use Rattle.pr_roles.specs.Worlds.{commands_by, entry_of, resets_in}
-use Rattle.pr_script.specs.Scripts.{ready}
 use Rattle.pr_script.specs.Takes.{take}
 use Rattle.pr_script.specs.Costs.{commands}
 use Rattle.pr_script.proofs.lemmas.Costs.Budgets.{cost_bounds_sends}
+use Rattle.pr_roles.proofs.lemmas.Worlds.Counts.{sent_other, sent_own, sent_reset}
 use Rattle.pr_verify.specs.inside.Invariants.{IsTurn, IsTaken, IsInvariant}
 use Rattle.pr_verify.proofs.lemmas.Places.Successors.{Leads, leads_begun}
 use Rattle.pr_verify.proofs.lemmas.Places.Replies.{LeadsOn, IsReadyAt, ready_at}
-use Rattle.pr_verify.proofs.lemmas.Laws.Budgets.{IsWithinCost, sent_other, sent_own, sent_reset, within_cost_taken}
+use Rattle.pr_verify.proofs.lemmas.Laws.Budgets.{IsWithinCost, within_cost_taken}
 
 -- ---- what is asked of what is said of lines
 
