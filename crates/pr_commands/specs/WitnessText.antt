@@ -13,8 +13,8 @@ use Rattle.pr_output.specs.PrintedLines.{line, attention_word, class_word, gener
 use Rattle.pr_report.specs.TraceText.{held_word, name_of, trace_body}
 use Rattle.pr_report.specs.Verdicts.{no_arm_words, place_words}
 use Rattle.pr_witness.specs.declared.breach.Breach.{Breach}
-use Rattle.pr_witness.specs.declared.breach.Broken.{Broken as Told}
-use Rattle.pr_witness.specs.declared.breach.Broken.TheVariants.{NoArm, OutOfRole, OverBudget}
+use Rattle.pr_explore.specs.declared.broken.Broken.{Broken as Told}
+use Rattle.pr_explore.specs.declared.broken.Broken.TheVariants.{NoArm, OutOfRole, OverBudget}
 use Rattle.pr_witness.specs.Classes.{last_class}
 
 -- What is broken.

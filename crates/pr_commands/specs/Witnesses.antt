@@ -9,10 +9,10 @@ use Rattle.pr_verify.specs.declared.refusal.Refusal.{Refusal}
 use Rattle.pr_verify.specs.Verdicts.{IsFirstReason}
 use Rattle.pr_output.specs.PrintedLines.{line}
 use Rattle.pr_report.specs.TraceText.{names_in}
-use Rattle.pr_witness.specs.declared.searching.Bound.{Bound}
-use Rattle.pr_witness.specs.declared.searching.Bound.TheVariants.{Worlds, Depth, Memory}
+use Rattle.pr_explore.specs.declared.explorer.Bound.{Bound}
+use Rattle.pr_explore.specs.declared.explorer.Bound.TheVariants.{Worlds, Depth, Memory}
 use Rattle.pr_witness.specs.declared.searching.Finding.{Finding}
-use Rattle.pr_witness.specs.declared.searching.Finding.TheVariants.{Found, Nothing}
+use Rattle.pr_witness.specs.declared.searching.Finding.TheVariants.{Found, Safe, Nothing}
 use Rattle.pr_witness.specs.Breaches.{IsFound}
 use Rattle.pr_commands.specs.WitnessText.{witness_text}
 use Rattle.pr_commands.specs.declared.fault.Fault.{Fault}
@@ -36,6 +36,7 @@ Holds (searched refusal search) s = IsFirstReason s refusal × IsFound s refusal
 
 abbrev pub search_text : List (List ℕ) → Finding → List ℕ
 search_text names (Found breach is_told) = witness_text names breach is_told
+search_text names (Safe worlds) = line (codes "safe") (decimal worlds ∷ [])
 search_text names (Nothing worlds bound) = line (codes "none") (decimal worlds ∷ bound_words bound)
 
 abbrev pub answer_text : List (List ℕ) → Answer → List ℕ
@@ -44,6 +45,7 @@ answer_text names (searched refusal search) = search_text names search
 
 abbrev pub is_found : Finding → Bool
 is_found (Found breach is_told) = true
+is_found (Safe worlds) = false
 is_found (Nothing worlds bound) = false
 
 -- a breach was found

@@ -1,6 +1,6 @@
 //! `fence witness`, over any reader, writer and error writer.
 
-ghost use Rattle.std.specs.Prelude.{◌≡◌, ◌+◌, ◌∷◌, codes};
+ghost use Rattle.std.specs.Prelude.{◌≡◌, ◌+◌, ◌∷◌, [], codes};
 ghost use Rattle.std.specs.Fmt.{decimal};
 ghost use Rattle.pr_text.specs.declared.text.TheConstants.{MOST_BYTES};
 ghost use Rattle.pr_text.specs.BytesRead.{LosesUpTo};
@@ -119,8 +119,21 @@ fn put_search<W: Write>(
 {
     match search {
         Finding::Found { breach, is_told } => write_witness(writer, scenario, breach, *is_told),
+        Finding::Safe { worlds } => put_safe(writer, *worlds),
         Finding::Nothing { worlds, bound } => put_none(writer, *worlds, *bound),
     }
+}
+
+// That the scenario is safe all the same: in none of so many worlds, which are all, anything breaks.
+#[tactic(auto, unfolding(pr_output::specs::Printed::printed_word))]
+fn put_safe<W: Write>(writer: &mut W, worlds: usize) -> Result<(), WriteFault>
+    ensures { Writes W.Write writer (line (codes "safe") (decimal worlds ∷ [])) result }
+{
+    put_line(
+        writer,
+        Token::Text(b"safe"),
+        &[Token::Number(worlds as u64)],
+    )
 }
 
 // That nothing was found among so many worlds, and the bound that was met.

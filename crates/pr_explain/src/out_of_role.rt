@@ -45,7 +45,7 @@ fn breach_in(finding: &Finding, host: u8, line: u32) -> Option<&Breach> {
         Finding::Found { breach, .. } if breach.broken == Broken::OutOfRole { host, line } => {
             Some(breach)
         }
-        Finding::Found { .. } | Finding::Nothing { .. } => None,
+        Finding::Found { .. } | Finding::Safe { .. } | Finding::Nothing { .. } => None,
     }
 }
 

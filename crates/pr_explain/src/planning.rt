@@ -15,8 +15,15 @@ use crate::plan::Explanation;
 use crate::senders::{SentBy, senders};
 use pr_roles::Scenario;
 use pr_verify::{Refusal, Table, judge};
-use pr_witness::{Finding, USUAL_BOUNDS, search};
+use pr_witness::{Bounds, Finding, USUAL_BOUNDS, search};
 use std::alloc::{AllocError, Global};
+
+/// How far a search goes for a run that is shown in words: a longer one nobody reads.
+pub(crate) const SHOWN_BOUNDS: Bounds = Bounds {
+    worlds: USUAL_BOUNDS.worlds,
+    depth: 64,
+    memory: USUAL_BOUNDS.memory,
+};
 
 /// What is to be said of the scenario: that it is accepted, and what its scripts cost; or that it is refused, with the first
 /// reason, what its hosts can know at each send, and a run that shows why, if the search finds one.
@@ -60,7 +67,7 @@ fn refused(
     ensures refused { IfOk result (λ e. is_refusal e ≡ true) }
     ensures holds { IfOk result (Holds (scenario_of scenario)) }
 {
-    let finding = search(alloc, &scenario, &refusal, USUAL_BOUNDS)?;
+    let finding = search(alloc, &scenario, &refusal, SHOWN_BOUNDS)?;
     let senders = senders_of(alloc, &scenario, &finding)?;
     Ok(Explanation::Refused {
         scenario,
@@ -79,6 +86,6 @@ fn senders_of(
 ) -> Result<Vec<SentBy>, AllocError> {
     match finding {
         Finding::Found { breach, .. } => senders(alloc, scenario, &breach.start, &breach.history),
-        Finding::Nothing { .. } => Ok(Vec::new(alloc)),
+        Finding::Safe { .. } | Finding::Nothing { .. } => Ok(Vec::new(alloc)),
     }
 }

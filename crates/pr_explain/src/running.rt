@@ -2,6 +2,7 @@
 
 use crate::lint_words::{put_numbered, put_widening};
 use crate::linting::is_needed;
+use crate::planning::SHOWN_BOUNDS;
 use crate::refusing::row_at;
 use crate::saying::{Part, name, number, say};
 use crate::senders::SentBy;
@@ -9,7 +10,7 @@ use crate::source::{first_word, is, line_of};
 use pr_output::{WriteFault, put};
 use pr_roles::{Action, Clause, Item, Nexus};
 use pr_verify::{Refusal, Table};
-use pr_witness::{Bound, Breach, Broken, Finding, USUAL_BOUNDS};
+use pr_witness::{Bound, Breach, Broken, Finding};
 use pr_words::{name_of, put_item, put_start};
 use std::io::Write;
 
@@ -41,6 +42,10 @@ pub(crate) fn put_finding<W: Write>(
 tells now.\n",
             )
         }
+        Finding::Safe { worlds } => {
+            put_safe(writer, *worlds)?;
+            put_others(writer, lines, nexuses, refusal, tables)
+        }
         Finding::Nothing { worlds, bound } => {
             put_nothing(writer, lines, *worlds, *bound)?;
             put_others(writer, lines, nexuses, refusal, tables)
@@ -66,6 +71,26 @@ fn reaches_unarmed(broken: Broken, refusal: Refusal, tables: &[Table]) -> bool {
     }
 }
 
+// That nothing goes wrong with these scripts and roles, though `fence check` can't see it.
+fn put_safe<W: Write>(writer: &mut W, worlds: usize) -> Result<(), WriteFault> {
+    say(
+        writer,
+        &[
+            Part::Text(b"\nThis is safe all the same: all"),
+            number(worlds as u64),
+            Part::Text(
+                b" states of disk and scripts that can come up were looked at, and nothing goes wrong in any",
+            ),
+            Part::Text(
+                b" of them. That is proved. `fence check` can't see it: what it goes by forgets which of",
+            ),
+            Part::Text(
+                b" these come together ('Safe, and refused all the same' in docs/VERDICTS.md).\n",
+            ),
+        ],
+    )
+}
+
 // What the search looked at, and what helps where a bound ended it.
 fn put_nothing<W: Write>(
     writer: &mut W,
@@ -73,24 +98,6 @@ fn put_nothing<W: Write>(
     worlds: usize,
     bound: Option<Bound>,
 ) -> Result<(), WriteFault> {
-    let Some(bound) = bound else {
-        return say(
-            writer,
-            &[
-                Part::Text(b"\nNo run shows it: all"),
-                number(worlds as u64),
-                Part::Text(
-                    b" states of disk and scripts that can come up were looked at. So with these scripts",
-                ),
-                Part::Text(
-                    b" and roles it can't happen, which `fence check` can't see. (That was searched, and is",
-                ),
-                Part::Text(
-                    b" not proved: see 'Safe, and refused all the same' in docs/VERDICTS.md.)\n",
-                ),
-            ],
-        );
-    };
     say(
         writer,
         &[
@@ -99,6 +106,9 @@ fn put_nothing<W: Write>(
             Part::Text(b" states of disk and scripts.\n"),
         ],
     )?;
+    let Some(bound) = bound else {
+        return Ok(());
+    };
     put_bound(writer, bound)?;
     put_help(writer, lines, bound)
 }
@@ -114,8 +124,8 @@ fn put_bound<W: Write>(writer: &mut W, bound: Bound) -> Result<(), WriteFault> {
             writer,
             &[
                 Part::Text(b"The search follows no run beyond"),
-                number(u64::from(USUAL_BOUNDS.depth)),
-                Part::Text(b" commands and resets, and a longer one may show it.\n"),
+                number(u64::from(SHOWN_BOUNDS.depth)),
+                Part::Text(b" steps. `fence witness` follows longer ones.\n"),
             ],
         ),
         Bound::Memory => put(

@@ -12,9 +12,10 @@ ghost use Rattle.pr_witness.specs.Breaches.{IsBreachOf, broken_of};
 ghost use Rattle.pr_witness.specs.inside.Following.{IsBroken, IsFollowed, IsForbidden, IsOverBudget};
 
 use crate::allowed::is_allowed_start;
-use crate::breach::{Breach, Broken};
+use crate::breach::Breach;
 use pr_audit::{Auditor, End, commands_by, counts_of};
 use pr_cdb::Status;
+use pr_explore::Broken;
 use pr_roles::{Item, Scenario, Task, permits};
 use pr_unit::Unit;
 use pr_verify::nexus_in;
