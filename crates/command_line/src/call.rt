@@ -20,6 +20,12 @@ pub enum Call<'a> {
         path: &'a str,
     },
 
+    /// Which ends of the scripts come together, or a run to those that these words ask for.
+    Ends {
+        path: &'a str,
+        asked: &'a [&'a str],
+    },
+
     /// The trace of these turns, each named by its nexus, or in version 2 another step.
     Replay {
         path: &'a str,
@@ -62,6 +68,10 @@ pub fn call_of<'a>(matches: &'a ArgMatches<'_>) -> Option<Call<'a>> {
         },
         "witness" => Call::Witness {
             path: arguments.get_str("FILE")?,
+        },
+        "ends" => Call::Ends {
+            path: arguments.get_str("FILE")?,
+            asked: arguments.get_strs("END").unwrap_or(&[]),
         },
         "replay" => replay_of(arguments)?,
         "run" => Call::Run {

@@ -7,7 +7,7 @@ use std::alloc::{AllocError, Global};
 const VERSION: &str = "0.1.0 (language fence 2, for rattle-kit-13f)";
 
 const STATUSES: &str =
-    "Exit status: 0 done, accepted or legal, or no witness is found; 1 a script is refused or trapped, a witness is found, or a trace is illegal; 2 the command line is at fault, or help or version was asked for; \
+    "Exit status: 0 done, accepted or legal, no witness is found, or no run ends as asked; 1 a script is refused or trapped, a witness is found, a run ends as asked or may end so, or a trace is illegal; 2 the command line is at fault, or help or version was asked for; \
 3 input or output is at fault; 4 memory ran out, or a thread could not be started. A fault is told in one line on standard error.";
 
 const CHECK_CALL: &str = "For example: fence check preempted-writer.fence";
@@ -15,6 +15,8 @@ const CHECK_CALL: &str = "For example: fence check preempted-writer.fence";
 const OUTLINE_CALL: &str = "For example: fence outline missing-arm.fence";
 
 const WITNESS_CALL: &str = "For example: fence witness missing-arm.fence";
+
+const ENDS_CALL: &str = "For example: fence ends race.fence, or fence ends race.fence a=won b=won";
 
 const REPLAY_CALL: &str = "For example: fence replay preempted-writer.fence a a b a";
 
@@ -26,8 +28,8 @@ const EXPLAIN_CALL: &str =
     "For example: fence explain missing-arm.fence, or fence explain missing-arm.fence missing-arm.1.trace";
 
 /// What the words of a command line say: the subcommand `check` with one `FILE` or more, `outline`, `witness` or `run` with its
-/// `FILE`, `replay` with its `FILE` and one `STEP` or more, or the path of a list of them behind `--steps`, `audit` with its `FILE` and its `TRACE`, or `explain` with its `FILE`
-/// and at most one `TRACE`.
+/// `FILE`, `ends` with its `FILE` and any number of `END`, `replay` with its `FILE` and one `STEP` or more, or the path of a list of
+/// them behind `--steps`, `audit` with its `FILE` and its `TRACE`, or `explain` with its `FILE` and at most one `TRACE`.
 pub fn matches_of<'a>(alloc: Global, words: &'a [String]) -> Result<ArgMatches<'a>, Error> {
     command(alloc)?.try_get_matches_from(words)
 }
@@ -44,6 +46,7 @@ fn command<'a>(alloc: Global) -> Result<Command<'a>, AllocError> {
     let command = with(command, check(alloc))?;
     let command = with(command, outline(alloc))?;
     let command = with(command, witness(alloc))?;
+    let command = with(command, ends(alloc))?;
     let command = with(command, replay(alloc))?;
     let command = with(command, run(alloc))?;
     let command = with(command, audit(alloc))?;
@@ -78,6 +81,20 @@ fn witness<'a>(alloc: Global) -> Result<Command<'a>, AllocError> {
         .about("Searches for a run that shows why the scripts are refused, and writes it")
         .after_help(WITNESS_CALL)
         .arg(file(alloc))
+}
+
+fn ends<'a>(alloc: Global) -> Result<Command<'a>, AllocError> {
+    let asked = Arg::new(alloc, "END")
+        .help(
+            "An end that is asked for, as NAME=WORD, or NAME=trapped:LINE: then a run to those is written, or that there is none",
+        )
+        .action(ArgAction::Append)
+        .num_args(1..);
+    Command::new(alloc, "ends")
+        .about("Writes with which words the scripts end together")
+        .after_help(ENDS_CALL)
+        .arg(file(alloc))?
+        .arg(asked)
 }
 
 fn replay<'a>(alloc: Global) -> Result<Command<'a>, AllocError> {

@@ -20,8 +20,8 @@ use crate::witnessed::{FIRST_LINE, do_explain_witness};
 use clap::error::ErrorKind;
 use command_line::{Call, call_of, matches_of};
 use pr_commands::{
-    ExitStatus, Fault, args_fault, do_audit, do_check, do_outline, do_replay, do_run, do_witness,
-    ended,
+    ExitStatus, Fault, args_fault, do_audit, do_check, do_ends, do_outline, do_replay, do_run,
+    do_witness, ended,
 };
 use std::io::Write;
 use std::process::ExitCode;
@@ -75,6 +75,7 @@ fn run_call<T: Threads + Wait + Sync>(
         Call::Check { paths } => Ok(check(rt, paths)),
         Call::Outline { path } => outline(rt, path),
         Call::Witness { path } => witness(rt, path),
+        Call::Ends { path, asked } => ends(rt, path, asked),
         Call::Replay { path, steps } => replay(rt, path, steps),
         Call::ReplayListed { path, list } => replay_listed(rt, path, list),
         Call::Run { path } => run_threads(rt, threads, path),
@@ -125,6 +126,17 @@ fn outline(rt: &HostRuntime, path: &str) -> Result<ExitStatus, Fault> {
 fn witness(rt: &HostRuntime, path: &str) -> Result<ExitStatus, Fault> {
     let mut text = open(rt, path)?;
     Ok(do_witness(rt.alloc(), &mut text, &mut rt.stdout(), &mut rt.stderr()))
+}
+
+fn ends(rt: &HostRuntime, path: &str, asked: &[&str]) -> Result<ExitStatus, Fault> {
+    let mut text = open(rt, path)?;
+    Ok(do_ends(
+        rt.alloc(),
+        asked,
+        &mut text,
+        &mut rt.stdout(),
+        &mut rt.stderr(),
+    ))
 }
 
 fn replay(rt: &HostRuntime, path: &str, steps: &[&str]) -> Result<ExitStatus, Fault> {

@@ -4,3 +4,4 @@ pub mod Replays
 pub mod Runs
 pub mod Steps
 pub mod Witnesses
+pub mod Ends

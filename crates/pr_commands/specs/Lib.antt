@@ -1,10 +1,13 @@
 pub mod FaultText
 pub mod Endings
+pub mod Ends
+pub mod EndsText
 pub mod Steps
 pub mod WitnessText
 pub mod Witnesses
 pub mod Replays
 pub mod Checks
+pub mod Asked
 pub mod Audits
 pub mod Runs
 pub mod Outlines

@@ -13,6 +13,7 @@ use Rattle.pr_output.specs.PrintedLines.{line, attention_word, class_word, gener
 use Rattle.pr_report.specs.TraceText.{held_word, name_of, trace_body}
 use Rattle.pr_report.specs.Verdicts.{no_arm_words, place_words}
 use Rattle.pr_witness.specs.declared.breach.Breach.{Breach}
+use Rattle.pr_witness.specs.declared.breach.CertifiedRun.{CertifiedRun}
 use Rattle.pr_explore.specs.declared.broken.Broken.{Broken as Told}
 use Rattle.pr_explore.specs.declared.broken.Broken.TheVariants.{NoArm, OutOfRole, OverBudget}
 use Rattle.pr_witness.specs.Classes.{last_class}
@@ -37,7 +38,7 @@ broken_words names (OutOfRole host at) history counts = out_of_role_words (name_
 broken_words names (OverBudget host) history counts = over_sent_words (name_of names host) (slice_index counts host)
 
 abbrev pub broken_line : List (List ℕ) → Breach → Bool → List ℕ
-broken_line names b told = line (told_word told) (broken_words names b.broken b.history.items b.counts.items)
+broken_line names b told = line (told_word told) (broken_words names b.broken b.run.history.items b.run.counts.items)
 
 -- The start, in the words of a scenario's own lines.
 
@@ -80,15 +81,13 @@ start_lines names u = flat_map (start_line names u.registry) (range_with_len 0 u
 abbrev pub pending_lines : List (List ℕ) → UnitState → List ℕ
 pending_lines names u = flat_map (λ host. pending_line (name_of names host) (is_pending u host)) (range_with_len 0 u.registry.hosts)
 
--- what stands above the items
-abbrev pub witness_head : List (List ℕ) → Breach → Bool → List ℕ
-witness_head names b told =
-    codes "fence-witness 1\n"
-    ++ (broken_line names b told
-    ++ (start_lines names b.start
-    ++ (pending_lines names b.start
-    ++ (held_line names b.start.registry.held
-    ++ generation_line b.start.registry.generation))))
+-- what stands of the start above the items
+abbrev pub run_head : List (List ℕ) → UnitState → List ℕ
+run_head names u = start_lines names u ++ (pending_lines names u ++ (held_line names u.registry.held ++ generation_line u.registry.generation))
+
+-- the run: its start, and what happened
+abbrev pub run_text_of : List (List ℕ) → CertifiedRun → List ℕ
+run_text_of names c = run_head names c.start ++ trace_body names c.history.items c.unit.registry (map ending_of c.ends.items) c.counts.items
 
 abbrev pub witness_text : List (List ℕ) → Breach → Bool → List ℕ
-witness_text names b told = witness_head names b told ++ trace_body names b.history.items b.unit.registry (map ending_of b.ends.items) b.counts.items
+witness_text names b told = codes "fence-witness 1\n" ++ (broken_line names b told ++ run_text_of names b.run)

@@ -5,3 +5,4 @@ pub mod PlannedReplays
 pub mod Performances
 pub mod Witnessed
 pub mod FaultRows
+pub mod Gathering

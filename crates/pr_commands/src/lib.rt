@@ -2,9 +2,12 @@
 //! its one fault in a line. The program over them opens what they read, and `fence explain` stands there.
 #![tactic(auto)]
 
+mod asked;
 mod audits;
 mod checks;
 mod ending;
+mod ends;
+mod ends_text;
 mod fault;
 mod laws;
 mod outlines;
@@ -17,6 +20,7 @@ mod witnesses;
 pub use audits::do_audit;
 pub use checks::do_check;
 pub use ending::ended;
+pub use ends::do_ends;
 pub use fault::{ExitStatus, Fault, args_fault, file_fault, tell};
 pub use laws::replays_are_traced;
 pub use outlines::do_outline;

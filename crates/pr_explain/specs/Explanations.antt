@@ -1,6 +1,6 @@
 -- Agrees with docs/VERDICTS.md, 'In words: `fence explain`'.
 -- What is said of a scenario: that it is accepted, or that it is refused and why.
-use Rattle.std.specs.Prelude.{◌≡◌, Bool, true, false, map}
+use Rattle.std.specs.Prelude.{◌≡◌, Bool, true, false, map, IfSome}
 use Rattle.pr_roles.specs.declared.parts.Parts.{Parts}
 use Rattle.pr_roles.specs.Scenarios.{Scenario}
 use Rattle.pr_roles.specs.Safety.{IsSafe}
@@ -8,21 +8,22 @@ use Rattle.pr_verify.specs.Rooms.{table_of}
 use Rattle.pr_verify.specs.Tables.{AreTables}
 use Rattle.pr_verify.specs.Verdicts.{IsFirstReason}
 use Rattle.pr_witness.specs.Breaches.{IsFound}
+use Rattle.pr_witness.specs.Ends.{AreEnds}
 use Rattle.pr_explain.specs.declared.plan.Explanation.{Explanation}
 use Rattle.pr_explain.specs.declared.plan.Explanation.TheVariants.{Accepted, Refused}
 use Rattle.pr_explain.specs.Costs.{cost_of}
 
 abbrev pub scenario_in : Explanation → Parts
-scenario_in (Accepted scenario costs lints) = scenario
+scenario_in (Accepted scenario costs lints ends) = scenario
 scenario_in (Refused scenario refusal tables finding senders) = scenario
 
 abbrev pub is_refusal : Explanation → Bool
-is_refusal (Accepted scenario costs lints) = false
+is_refusal (Accepted scenario costs lints ends) = false
 is_refusal (Refused scenario refusal tables finding senders) = true
 
--- Of one that is accepted: it is safe, and these are the costs of its scripts. Of one that is refused: this is the first reason
+-- Of one that is accepted: it is safe, these are the costs of its scripts, and these of their ends come together. Of one that is refused: this is the first reason
 -- that the least sound outlines show, the tables are of these outlines, and a run that was found breaks what safety says.
 abbrev pub Holds : Scenario → Explanation → Type 0
-Holds s (Accepted scenario costs lints) = IsSafe s × (costs.items ≡ map (λ n. cost_of n.task) s.nexuses)
+Holds s (Accepted scenario costs lints ends) = IsSafe s × (costs.items ≡ map (λ n. cost_of n.task) s.nexuses) × IfSome ends (AreEnds s)
 Holds s (Refused scenario refusal tables finding senders) =
     IsFirstReason s refusal × AreTables s (map table_of tables.items) × IsFound s refusal finding

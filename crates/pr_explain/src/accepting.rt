@@ -6,8 +6,10 @@ use crate::lint::Lint;
 use crate::lint_words::{is_meant, is_of_arm, put_lint, spare_arm};
 use crate::saying::{Part, line_number, name, number, say};
 use crate::source::first_word;
+use crate::together::put_together;
 use pr_output::{WriteFault, put};
 use pr_roles::Scenario;
+use pr_witness::Ends;
 use std::io::Write;
 
 /// What `accepted` says, and what it rests on.
@@ -29,6 +31,7 @@ pub(crate) fn put_accepted<W: Write>(
     scenario: &Scenario,
     costs: &[Option<Cost>],
     lints: &[Lint],
+    ends: Option<&Ends>,
 ) -> Result<(), WriteFault> {
     put(writer, MEANING)?;
     let nexuses = &scenario.parts().nexuses;
@@ -36,6 +39,9 @@ pub(crate) fn put_accepted<W: Write>(
         if let (Some(nexus), Some(cost)) = (nexuses.get(host), cost) {
             put_cost(writer, nexus.name.as_str().as_bytes(), *cost)?;
         }
+    }
+    if let Some(ends) = ends {
+        put_together(writer, nexuses, ends)?;
     }
     put_lints(writer, lines, scenario, lints)
 }

@@ -78,7 +78,7 @@ fn put_lost<W: Write>(
     match loss_of(breach, host, condition) {
         Some(loss) if told == Some(loss.index) => Ok(told),
         Some(loss) => {
-            put_loss(writer, nexuses, &breach.history, host, condition, loss)?;
+            put_loss(writer, nexuses, &breach.run.history, host, condition, loss)?;
             Ok(Some(loss.index))
         }
         // (it is said below that nothing is reserved)
@@ -286,7 +286,7 @@ fn put_unreserved<W: Write>(
         put_loss(
             writer,
             nexuses,
-            &breach.history,
+            &breach.run.history,
             host,
             Condition::Reserved,
             loss,

@@ -26,6 +26,7 @@ mod saying;
 mod senders;
 mod source;
 mod stepping;
+mod together;
 mod writing;
 
 pub use costing::{Cost, costs};

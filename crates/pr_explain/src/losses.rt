@@ -23,8 +23,8 @@ pub(crate) struct Loss {
 
 /// The unit before the last command of the run.
 pub(crate) fn unit_before_last(breach: &Breach) -> Unit {
-    let mut unit = breach.start.copy();
-    for (index, item) in breach.history.iter().enumerate() {
+    let mut unit = breach.run.start.copy();
+    for (index, item) in breach.run.history.iter().enumerate() {
         if is_before_last(breach, index) {
             go_past(&mut unit, item);
         }
@@ -33,14 +33,14 @@ pub(crate) fn unit_before_last(breach: &Breach) -> Unit {
 }
 
 fn is_before_last(breach: &Breach, index: usize) -> bool {
-    index.saturating_add(1) < breach.history.len()
+    index.saturating_add(1) < breach.run.history.len()
 }
 
 /// The last command, before the last of the run, behind which this no longer held of the nexus.
 pub(crate) fn loss_of(breach: &Breach, host: u8, condition: Condition) -> Option<Loss> {
-    let mut unit = breach.start.copy();
+    let mut unit = breach.run.start.copy();
     let mut loss = None;
-    for (index, item) in breach.history.iter().enumerate() {
+    for (index, item) in breach.run.history.iter().enumerate() {
         let before = unit.registry().held();
         let was_met = is_met(condition, &unit, host);
         go_past(&mut unit, item);
@@ -58,7 +58,7 @@ pub(crate) fn loss_of(breach: &Breach, host: u8, condition: Condition) -> Option
 /// The first command of the nexus behind this one, and before the last of the run, that was told of what another did: it ended in
 /// RESERVATION CONFLICT, or in an attention that a command of another leaves.
 pub(crate) fn told_behind(breach: &Breach, host: u8, index: usize) -> Option<(usize, &Entry)> {
-    for (later, item) in breach.history.iter().enumerate() {
+    for (later, item) in breach.run.history.iter().enumerate() {
         if let Item::Sent(entry) = item
             && later > index
             && is_before_last(breach, later)

@@ -112,7 +112,7 @@ fn put_mended_run<W: Write>(
 
 // The line of the script by which the nexus itself gave up what its role asks for, if it did.
 fn own_line(breach: &Breach, senders: &[SentBy], host: u8, loss: Loss) -> Option<u32> {
-    let (sender, _) = command_at(&breach.history, loss.index)?;
+    let (sender, _) = command_at(&breach.run.history, loss.index)?;
     match senders.get(loss.index) {
         Some(SentBy::Line(line)) if sender == host => Some(*line),
         Some(SentBy::Line(_) | SentBy::Clause(_) | SentBy::Nothing) | None => None,

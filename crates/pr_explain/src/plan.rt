@@ -7,7 +7,7 @@ use crate::lint::Lint;
 use crate::senders::SentBy;
 use pr_roles::Scenario;
 use pr_verify::{Refusal, Table};
-use pr_witness::Finding;
+use pr_witness::{Ends, Finding};
 
 /// What is said of a scenario.
 #[derive(Drop)]
@@ -18,6 +18,8 @@ pub enum Explanation {
         /// Of each nexus that has a script, what that costs.
         costs: Vec<Option<Cost>>,
         lints: Vec<Lint>,
+        /// Which ends come together, where there are two scripts or more.
+        ends: Option<Ends>,
     },
     /// It is refused.
     Refused {

@@ -1,21 +1,22 @@
 //! The plan of what is said of a scenario's verdict.
 
-ghost use Rattle.std.specs.Prelude.{◌≡◌, ◌↔◌, false, true, map, IfOk};
+ghost use Rattle.std.specs.Prelude.{◌≡◌, ◌↔◌, false, true, map, IfOk, IfSome};
 ghost use Rattle.pr_roles.specs.Safety.{IsSafe};
 ghost use Rattle.pr_roles.specs.Scenarios.{scenario_of};
 ghost use Rattle.pr_verify.specs.Outlines.{HaveOutlines};
 ghost use Rattle.pr_verify.specs.Rooms.{table_of};
 ghost use Rattle.pr_verify.specs.Tables.{AreTables};
 ghost use Rattle.pr_verify.specs.Verdicts.{IsFirstReason};
+ghost use Rattle.pr_witness.specs.Ends.{AreEnds};
 ghost use Rattle.pr_explain.specs.Explanations.{Holds, is_refusal, scenario_in};
 
 use crate::costing::costs;
 use crate::linting::lints;
 use crate::plan::Explanation;
 use crate::senders::{SentBy, senders};
-use pr_roles::Scenario;
+use pr_roles::{Scenario, Task};
 use pr_verify::{Refusal, Table, judge};
-use pr_witness::{Bounds, Finding, USUAL_BOUNDS, search};
+use pr_witness::{Bounds, Ends, Finding, USUAL_BOUNDS, ends_together, search};
 use std::alloc::{AllocError, Global};
 
 /// How far a search goes for a run that is shown in words: a longer one nobody reads.
@@ -25,7 +26,14 @@ pub(crate) const SHOWN_BOUNDS: Bounds = Bounds {
     memory: USUAL_BOUNDS.memory,
 };
 
-/// What is to be said of the scenario: that it is accepted, and what its scripts cost; or that it is refused, with the first
+/// How far it goes for ends that are told beside a verdict: who wants more of them asks `fence ends`.
+const ENDS_BOUNDS: Bounds = Bounds {
+    worlds: 100_000,
+    depth: USUAL_BOUNDS.depth,
+    memory: USUAL_BOUNDS.memory,
+};
+
+/// What is to be said of the scenario: that it is accepted, what its scripts cost, and which of their ends come together; or that it is refused, with the first
 /// reason, what its hosts can know at each send, and a run that shows why, if the search finds one.
 pub fn explanation(alloc: Global, scenario: Scenario) -> Result<Explanation, AllocError>
     ensures scenario { IfOk result (λ e. scenario_in e ≡ scenario) }
@@ -48,11 +56,29 @@ fn accepted(alloc: Global, scenario: Scenario, tables: &[Table]) -> Result<Expla
 {
     let costs = costs(alloc, &scenario.parts().nexuses)?;
     let lints = lints(alloc, &scenario, tables)?;
+    let ends = ends_of(alloc, &scenario)?;
     Ok(Explanation::Accepted {
         scenario,
         costs,
         lints,
+        ends,
     })
+}
+
+// Which ends come together, where there are two scripts or more.
+fn ends_of(alloc: Global, scenario: &Scenario) -> Result<Option<Ends>, AllocError>
+    ensures { IfOk result (λ found. IfSome found (AreEnds (scenario_of scenario.now))) }
+{
+    let scripts = scenario
+        .parts()
+        .nexuses
+        .iter()
+        .filter(|nexus| matches!(nexus.task, Task::Scripted { .. }))
+        .count();
+    if scripts < 2 {
+        return Ok(None);
+    }
+    Ok(Some(ends_together(alloc, scenario, ENDS_BOUNDS)?))
 }
 
 fn refused(
@@ -85,7 +111,12 @@ fn senders_of(
     finding: &Finding,
 ) -> Result<Vec<SentBy>, AllocError> {
     match finding {
-        Finding::Found { breach, .. } => senders(alloc, scenario, &breach.start, &breach.history),
+        Finding::Found { breach, .. } => senders(
+            alloc,
+            scenario,
+            &breach.run.start,
+            &breach.run.history,
+        ),
         Finding::Safe { .. } | Finding::Nothing { .. } => Ok(Vec::new(alloc)),
     }
 }

@@ -229,8 +229,8 @@ fn put_run<W: Write>(
     breach: &Breach,
     senders: &[SentBy],
 ) -> Result<(), WriteFault> {
-    put_start(writer, nexuses, &breach.start)?;
-    for (index, item) in breach.history.iter().enumerate() {
+    put_start(writer, nexuses, &breach.run.start)?;
+    for (index, item) in breach.run.history.iter().enumerate() {
         let line = match senders.get(index) {
             Some(SentBy::Line(line)) => Some(*line),
             Some(SentBy::Clause(_) | SentBy::Nothing) | None => None,
@@ -244,7 +244,7 @@ fn put_run<W: Write>(
         )?;
     }
     put_broken(writer, nexuses, breach)?;
-    put_permissions(writer, lines, nexuses, &breach.history, senders)
+    put_permissions(writer, lines, nexuses, &breach.run.history, senders)
 }
 
 // What the last of the commands breaks.

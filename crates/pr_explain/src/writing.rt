@@ -21,7 +21,8 @@ pub fn write_explanation<W: Write>(
             scenario,
             costs,
             lints,
-        } => put_accepted(writer, lines, scenario, costs, lints),
+            ends,
+        } => put_accepted(writer, lines, scenario, costs, lints, ends.as_ref()),
         Explanation::Refused {
             scenario,
             refusal,

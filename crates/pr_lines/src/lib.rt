@@ -24,4 +24,4 @@ pub use keyword::{KEYWORDS, Keyword, keyword_of};
 pub use misfit::{Misfit, Wanted};
 pub use options::{ACTIONS, DIRECTIONS};
 pub use spelling::ParsedCommand;
-pub use terms::key_or_zero;
+pub use terms::{amount_of, key_or_zero, name_of, value_after};

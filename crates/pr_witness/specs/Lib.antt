@@ -1,3 +1,5 @@
 pub mod Breaches
+pub mod CertifiedRuns
 pub mod Classes
+pub mod Ends
 pub mod inside

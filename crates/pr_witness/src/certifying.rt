@@ -9,10 +9,11 @@ ghost use Rattle.pr_roles.specs.Worlds.{Trapped, commands_by, control};
 ghost use Rattle.pr_audit.specs.Auditors.{ActFor, world_at};
 ghost use Rattle.pr_audit.specs.Ends.{ending_of, endings};
 ghost use Rattle.pr_witness.specs.Breaches.{IsBreachOf, broken_of};
-ghost use Rattle.pr_witness.specs.inside.Following.{IsBroken, IsFollowed, IsForbidden, IsOverBudget};
+ghost use Rattle.pr_witness.specs.CertifiedRuns.{IsRunOf};
+ghost use Rattle.pr_witness.specs.inside.Following.{IsBroken, IsRunFrom, IsFollowed, IsForbidden, IsOverBudget};
 
 use crate::allowed::is_allowed_start;
-use crate::breach::Breach;
+use crate::breach::{Breach, CertifiedRun};
 use pr_audit::{Auditor, End, commands_by, counts_of};
 use pr_cdb::Status;
 use pr_explore::Broken;
@@ -41,17 +42,53 @@ pub fn certify(
     if !breaks(&mut auditor, scenario, &history, broken) {
         return Ok(None);
     }
-    let ends = ends_of(alloc, &auditor, scenario)?;
+    let run = run_of(alloc, scenario, &auditor, start, history)?;
+    Ok(Some(Breach { run, broken }))
+}
+
+/// The run that this history from this start is, if it is one. Where it answers none, nothing is said.
+pub fn certify_run(
+    alloc: Global,
+    scenario: &Scenario,
+    start: Unit,
+    history: Vec<Item>,
+) -> Result<Option<CertifiedRun>, AllocError>
+    ensures { IfOk result (λ found. IfSome found (IsRunOf (scenario_of scenario.now))) }
+{
+    if history.len() > MOST_ITEMS || !is_allowed_start(scenario, &start) {
+        return Ok(None);
+    }
+    let mut auditor = Auditor::from_start(alloc, scenario, start.copy())?;
+    if !admits_all(&mut auditor, scenario, &history) {
+        return Ok(None);
+    }
+    let run = run_of(alloc, scenario, &auditor, start, history)?;
+    Ok(Some(run))
+}
+
+// The run that the auditor has followed, which has this history from this start.
+fn run_of(
+    alloc: Global,
+    scenario: &Scenario,
+    auditor: &Auditor,
+    start: Unit,
+    history: Vec<Item>,
+) -> Result<CertifiedRun, AllocError>
+    requires acts { ActFor (scenario_of scenario.now) (world_at auditor.now []) }
+    requires short { length history.items < 2 ^ 32 }
+    ensures { IfOk result (IsRunFrom (scenario_of scenario.now) auditor.now start
+        history.items) }
+{
+    let ends = ends_of(alloc, auditor, scenario)?;
     let counts = counts_of(alloc, &history, scenario.parts().nexuses.len())?;
     let unit = auditor.unit().copy();
-    Ok(Some(Breach {
+    Ok(CertifiedRun {
         start,
         history,
         unit,
         ends,
         counts,
-        broken,
-    }))
+    })
 }
 
 // Whether the history may go on from here, and has then broken this with its last item.

@@ -17,7 +17,7 @@ use Rattle.fence.specs.Explanations.{EndsTold}
 pub told_plan : (known : Option (List ℕ)) (p : Parts) (e : Explanation) (refused : Bool) → IfSome known (λ text. IsWrittenAs text (scenario_of p))
     → (is_refusal e ≡ false) ↔ HaveOutlines (scenario_of p) → Holds (scenario_of p) e → refused ≡ is_refusal e → EndsTold known (Ok refused)
 told_plan None p e refused read exact holds is = tt
-told_plan (Some text) p (Accepted verified costs lints) refused read exact holds is = (
+told_plan (Some text) p (Accepted verified costs lints ends) refused read exact holds is = (
   verdict_text (names_in (scenario_of p)) verdict.Accepted,
   record {
     scenario = scenario_of p;

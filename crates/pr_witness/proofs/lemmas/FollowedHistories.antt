@@ -1,7 +1,6 @@
 -- Histories that are followed, and what their last item breaks.
 use Rattle.std.proofs.Common.{◌≡◌, ℕ, ◌+◌, ◌<◌, true, false, List, [], ◌∷◌, ◌++◌, length, get_or, take, Some, None, refl, sym, ap, ◌∙◌, subst, arith}
-use Rattle.std.specs.Prelude.{map, vec_len}
-use Rattle.std.specs.List.{range_with_len}
+use Rattle.std.specs.Prelude.{vec_len}
 use Rattle.std.proofs.lemmas.List.{length-map, take_more}
 use Rattle.pr_cdb.specs.declared.command.Command.{Command}
 use Rattle.pr_cdb.specs.declared.reply.Reply.{Reply}
@@ -18,18 +17,18 @@ use Rattle.pr_roles.specs.Breaches.{Broken, meets_no_arm, leaves_role, exceeds_b
 use Rattle.pr_roles.specs.Permits.{is_permitted}
 use Rattle.pr_roles.specs.declared.parts.Parts.{Parts}
 use Rattle.pr_roles.specs.Scenarios.{Scenario, role, scenario_of}
-use Rattle.pr_roles.specs.Schedules.{plan_of}
 use Rattle.pr_roles.specs.Starts.{IsAllowedStart}
-use Rattle.pr_roles.specs.Worlds.{World, Event, Host, Guest, UnitReset, Happens, HostSends, commands_by, control, entry_of, standing_of, world_from}
+use Rattle.pr_roles.specs.Worlds.{World, Event, Host, Guest, UnitReset, Happens, HostSends, control, entry_of, standing_of, world_from}
 use Rattle.pr_audit.specs.declared.auditor.Auditor.{Auditor}
 use Rattle.pr_audit.specs.Auditors.{Adds, ActFor, IsTried, is_free, world_at, is_planned}
-use Rattle.pr_audit.specs.Ends.{ending_of, endings}
 use Rattle.pr_regions.proofs.lemmas.Showing.ScenarioParts.{count_of_parts}
 use Rattle.pr_audit.proofs.lemmas.Auditors.Additions.{guests_free, same_entry, same_item}
 use Rattle.pr_audit.proofs.lemmas.Auditing.Histories.{reaches_more}
 use Rattle.pr_witness.specs.declared.breach.Breach.{Breach}
+use Rattle.pr_witness.specs.declared.breach.CertifiedRun.{CertifiedRun}
 use Rattle.pr_witness.specs.Breaches.{IsBreachOf, broken_of}
-use Rattle.pr_witness.specs.inside.Following.{IsBroken, IsFollowed, IsForbidden, LeavesWith}
+use Rattle.pr_witness.specs.CertifiedRuns.{IsRunOf, TellsOf}
+use Rattle.pr_witness.specs.inside.Following.{IsBroken, IsRunFrom, IsFollowed, IsForbidden, LeavesWith}
 
 -- there is a script or a guest for each that the scenario declares
 pub control_there : (s : Scenario) (w : World) (h : ℕ) → ActFor s w → h < length s.nexuses → h < length w.controls
@@ -118,28 +117,44 @@ forbidden_whole s u history before a b e broken whole followed tried acts bad = 
   breaks = subst (λ es. Breaks s u (world_at b es) broken) (sym whole) (forbidden_breaks s u before a b e broken followed tried.0 bad);
 }
 
--- ---- a breach
+-- ---- a run
 
-pub breach_from : (s : Scenario) (breach : Breach) (v : UnitState) (a b : Auditor) (es : List Item) → IsAllowedStart s breach.start → world_at a [] ≡ world_from s v → v ≡ breach.start
-    → ActFor s (world_at a []) → es ≡ breach.history.items → ((u : UnitState) → IsFollowed s u [] (world_at a []) → IsBroken s u es (world_at b es) (broken_of breach.broken))
-    → breach.unit ≡ (world_at b []).unit
-    → map (λ e. Some (ending_of e)) breach.ends.items ≡ endings (world_at b []).controls (map (λ n. plan_of n.task) s.nexuses)
-    → breach.counts.items ≡ map (commands_by breach.history.items) (range_with_len 0 (length s.nexuses)) → IsBreachOf s breach
-breach_from s breach v a b es allowed world same acts whole breaks unit ends counts =
-    let first = followed_first s breach.start a (world ∙ ap (world_from s) same) acts in
-    let done = subst (λ xs. IsBroken s breach.start xs (world_at b xs) (broken_of breach.broken)) whole (breaks breach.start first) in
+-- (what is read of the world is not its history)
+tells_at : (s : Scenario) (c : CertifiedRun) (a : Auditor) (es : List Item) → TellsOf s c (world_at a []) → TellsOf s c (world_at a es)
+tells_at s c a es tells = record { unit = tells.unit; ends = tells.ends; counts = tells.counts }
+
+pub run_from : (s : Scenario) (c : CertifiedRun) (start v : UnitState) (history es : List Item) (a b : Auditor) → IsAllowedStart s start → world_at a [] ≡ world_from s v → v ≡ start
+    → ActFor s (world_at a []) → es ≡ history → ((u : UnitState) → IsFollowed s u [] (world_at a []) → IsFollowed s u es (world_at b es))
+    → IsRunFrom s b start history c → IsRunOf s c
+run_from s c start v history es a b allowed world same acts whole follows from =
+    let first = followed_first s c.start a (world ∙ ap (world_from s) (same ∙ sym from.starts)) acts in
+    let done = subst (λ xs. IsFollowed s c.start xs (world_at b xs)) (whole ∙ sym from.items) (follows c.start first) in
+    record {
+      allowed = subst (IsAllowedStart s) (sym from.starts) allowed;
+      events = done.reaches.events;
+      world = world_at b c.history.items;
+      run = done.reaches.run;
+      whole = refl;
+      tells = tells_at s c b c.history.items from.tells;
+    }
+
+pub breach_from : (s : Scenario) (breach : Breach) (start v : UnitState) (history es : List Item) (a b : Auditor) → IsAllowedStart s start → world_at a [] ≡ world_from s v → v ≡ start
+    → ActFor s (world_at a []) → es ≡ history → ((u : UnitState) → IsFollowed s u [] (world_at a []) → IsBroken s u es (world_at b es) (broken_of breach.broken))
+    → IsRunFrom s b start history breach.run → IsBreachOf s breach
+breach_from s breach start v history es a b allowed world same acts whole breaks from =
+    let c = breach.run in
+    let first = followed_first s c.start a (world ∙ ap (world_from s) (same ∙ sym from.starts)) acts in
+    let done = subst (λ xs. IsBroken s c.start xs (world_at b xs) (broken_of breach.broken)) (whole ∙ sym from.items) (breaks c.start first) in
     record {
       breach = record {
-        allowed = allowed;
+        allowed = subst (IsAllowedStart s) (sym from.starts) allowed;
         events = done.followed.reaches.events;
-        world = world_at b breach.history.items;
+        world = world_at b c.history.items;
         run = done.followed.reaches.run;
         whole = refl;
         breaks = done.breaks;
       };
-      unit = unit;
-      ends = ends;
-      counts = counts;
+      tells = tells_at s c b c.history.items from.tells;
     }
 
 -- as many as the parts declare

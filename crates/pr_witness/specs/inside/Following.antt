@@ -1,5 +1,5 @@
 -- A history that is followed, and what its last item breaks.
-use Rattle.std.specs.Prelude.{◌≡◌, ℕ, true, false, List, Some}
+use Rattle.std.specs.Prelude.{◌≡◌, ℕ, true, false, List, [], Some}
 use Rattle.pr_cdb.specs.declared.command.Command.{Command}
 use Rattle.pr_cdb.specs.declared.wire.Request.TheVariants.{Plain}
 use Rattle.pr_unit.specs.UnitStates.{UnitState}
@@ -13,8 +13,11 @@ use Rattle.pr_roles.specs.Permits.{is_permitted}
 use Rattle.pr_roles.specs.Scenarios.{Scenario, role, task}
 use Rattle.pr_roles.specs.Safety.{KeepsBudgetBy}
 use Rattle.pr_roles.specs.Worlds.{World, control, standing_of}
-use Rattle.pr_audit.specs.Auditors.{ActFor}
+use Rattle.pr_audit.specs.declared.auditor.Auditor.{Auditor}
+use Rattle.pr_audit.specs.Auditors.{ActFor, world_at}
 use Rattle.pr_audit.specs.inside.Auditing.{Reaches}
+use Rattle.pr_witness.specs.declared.breach.CertifiedRun.{CertifiedRun}
+use Rattle.pr_witness.specs.CertifiedRuns.{TellsOf}
 
 -- some run from this start has this history and leads to this world, in which there is one nexus for each that the scenario
 -- declares
@@ -45,3 +48,9 @@ IsOverBudget s history h = (w : World) → w.history ≡ history → ¬ KeepsBud
 pub record IsBroken (s : Scenario) (u : UnitState) (history : List Item) (w : World) (broken : Broken) : Type 0 where
   pub followed : IsFollowed s u history w
   pub breaks : Breaks s u w broken
+
+-- the run has this start and this history, and tells the world in which the auditor is
+pub record IsRunFrom (s : Scenario) (a : Auditor) (start : UnitState) (history : List Item) (c : CertifiedRun) : Type 0 where
+  pub starts : c.start ≡ start
+  pub items : c.history.items ≡ history
+  pub tells : TellsOf s c (world_at a [])

@@ -7,65 +7,40 @@ use Rattle.pr_output.specs.PrintedLines.{line}
 use Rattle.pr_report.specs.TraceText.{held_word, names_of}
 use Rattle.pr_output.specs.Written.{FallsShort, Puts}
 use Rattle.pr_output.proofs.lemmas.Written.Fronts.{front_first, front_then, puts_err, puts_last}
-use Rattle.pr_commands.specs.WitnessText.{broken_words, generation_line, pending_lines, start_lines, told_word}
+use Rattle.pr_commands.specs.WitnessText.{generation_line, pending_lines, start_lines}
 use Rattle.pr_commands.proofs.witness_text.put_head.Goals as goal
-
-pub returns-in_err-put : goal.returns-in_err-put
-returns-in_err-put g c = puts_err _ _ _ _ (front_first _ _ (codes "fence-witness 1\n") _ c.in_err-put.ensures) c.from_residual.ensures.0
-
-pub returns-in_err-put_broken : goal.returns-in_err-put_broken
-returns-in_err-put_broken g c =
-    let names = names_of c.args.nexuses.now in
-    let b = c.args.breach.now in
-    let second = line (told_word c.args.is_told) (broken_words names b.broken b.history.items b.counts.items) in
-    puts_err _ _ _ _ (front_then _ _ _ (codes "fence-witness 1\n") _ c.in_ok-put.ensures
-    (front_first _ _ second _ c.in_err-put_broken.ensures)) c.from_residual-in_err-put_broken.ensures.0
 
 pub returns-in_err-put_starts : goal.returns-in_err-put_starts
 returns-in_err-put_starts g c =
     let names = names_of c.args.nexuses.now in
-    let b = c.args.breach.now in
-    let second = line (told_word c.args.is_told) (broken_words names b.broken b.history.items b.counts.items) in
-    puts_err _ _ _ _ (front_then _ _ _ (codes "fence-witness 1\n") _ c.in_ok-put.ensures
-    (front_then _ _ _ second _ c.in_ok-put_broken.ensures
-    (front_first _ _ (start_lines names b.start) _ c.in_err-put_starts.ensures))) c.from_residual-in_err-put_starts.ensures.0
+    puts_err _ _ _ _ (front_first _ _ (start_lines names c.args.start.now) _ c.in_err-put_starts.ensures) c.from_residual.ensures.0
 
 pub returns-in_err-put_pendings : goal.returns-in_err-put_pendings
 returns-in_err-put_pendings g c =
     let names = names_of c.args.nexuses.now in
-    let b = c.args.breach.now in
-    let second = line (told_word c.args.is_told) (broken_words names b.broken b.history.items b.counts.items) in
-    puts_err _ _ _ _ (front_then _ _ _ (codes "fence-witness 1\n") _ c.in_ok-put.ensures
-    (front_then _ _ _ second _ c.in_ok-put_broken.ensures
-    (front_then _ _ _ (start_lines names b.start) _ c.in_ok-put_starts.ensures
-    (front_first _ _ (pending_lines names b.start) _ c.in_err-put_pendings.ensures)))) c.from_residual-in_err-put_pendings.ensures.0
+    puts_err _ _ _ _ (front_then _ _ _ (start_lines names c.args.start.now) _ c.in_ok-put_starts.ensures
+    (front_first _ _ (pending_lines names c.args.start.now) _ c.in_err-put_pendings.ensures)) c.from_residual-in_err-put_pendings.ensures.0
 
 pub returns-in_err-put_reservation : goal.returns-in_err-put_reservation
 returns-in_err-put_reservation g c =
     let names = names_of c.args.nexuses.now in
-    let b = c.args.breach.now in
-    let second = line (told_word c.args.is_told) (broken_words names b.broken b.history.items b.counts.items) in
-    let fifth : Option Held → List ℕ = λ h. line (codes "reservation") (held_word names h ∷ []) in
-    let held : c.held.result ≡ b.start.registry.held = c.held.ensures ∙ ap (λ (r : State). r.held) c.registry-registry.ensures.value in
-    let short = subst (λ (h : Option Held). FallsShort (g.W.Write.contents c.put_pendings.new.writer) (g.W.Write.contents c.put_reservation.new.writer) (fifth h)) held c.in_err-put_reservation.ensures in
-    puts_err _ _ _ _ (front_then _ _ _ (codes "fence-witness 1\n") _ c.in_ok-put.ensures
-    (front_then _ _ _ second _ c.in_ok-put_broken.ensures
-    (front_then _ _ _ (start_lines names b.start) _ c.in_ok-put_starts.ensures
-    (front_then _ _ _ (pending_lines names b.start) _ c.in_ok-put_pendings.ensures
-    (front_first _ _ (fifth b.start.registry.held) _ short))))) c.from_residual-in_err-put_reservation.ensures.0
+    let u = c.args.start.now in
+    let third : Option Held → List ℕ = λ h. line (codes "reservation") (held_word names h ∷ []) in
+    let held : c.held.result ≡ u.registry.held = c.held.ensures ∙ ap (λ (r : State). r.held) c.registry-registry.ensures.value in
+    let short = subst (λ (h : Option Held). FallsShort (g.W.Write.contents c.put_pendings.new.writer) (g.W.Write.contents c.put_reservation.new.writer) (third h)) held c.in_err-put_reservation.ensures in
+    puts_err _ _ _ _ (front_then _ _ _ (start_lines names u) _ c.in_ok-put_starts.ensures
+    (front_then _ _ _ (pending_lines names u) _ c.in_ok-put_pendings.ensures
+    (front_first _ _ (third u.registry.held) _ short))) c.from_residual-in_err-put_reservation.ensures.0
 
 pub returns : goal.returns
 returns g c =
     let names = names_of c.args.nexuses.now in
-    let b = c.args.breach.now in
-    let second = line (told_word c.args.is_told) (broken_words names b.broken b.history.items b.counts.items) in
-    let fifth : Option Held → List ℕ = λ h. line (codes "reservation") (held_word names h ∷ []) in
-    let held : c.held.result ≡ b.start.registry.held = c.held.ensures ∙ ap (λ (r : State). r.held) c.registry-registry.ensures.value in
-    let word = subst (λ (h : Option Held). Appends (g.W.Write.contents c.put_pendings.new.writer) (g.W.Write.contents c.put_reservation.new.writer) (fifth h)) held c.in_ok-put_reservation.ensures in
-    let generation : c.generation.result ≡ b.start.registry.generation = c.generation.ensures ∙ ap (λ (r : State). r.generation) c.registry-registry.ensures.value in
+    let u = c.args.start.now in
+    let third : Option Held → List ℕ = λ h. line (codes "reservation") (held_word names h ∷ []) in
+    let held : c.held.result ≡ u.registry.held = c.held.ensures ∙ ap (λ (r : State). r.held) c.registry-registry.ensures.value in
+    let word = subst (λ (h : Option Held). Appends (g.W.Write.contents c.put_pendings.new.writer) (g.W.Write.contents c.put_reservation.new.writer) (third h)) held c.in_ok-put_reservation.ensures in
+    let generation : c.generation.result ≡ u.registry.generation = c.generation.ensures ∙ ap (λ (r : State). r.generation) c.registry-registry.ensures.value in
     let last = subst (λ (n : ℕ). Puts (g.W.Write.contents c.put_reservation.new.writer) (g.W.Write.contents c.put_generation.new.writer) (generation_line n) c.put_generation.result) generation c.put_generation.ensures in
-    puts_last _ _ _ (codes "fence-witness 1\n") _ _ c.in_ok-put.ensures
-    (puts_last _ _ _ second _ _ c.in_ok-put_broken.ensures
-    (puts_last _ _ _ (start_lines names b.start) _ _ c.in_ok-put_starts.ensures
-    (puts_last _ _ _ (pending_lines names b.start) _ _ c.in_ok-put_pendings.ensures
-    (puts_last _ _ _ (fifth b.start.registry.held) _ _ word last))))
+    puts_last _ _ _ (start_lines names u) _ _ c.in_ok-put_starts.ensures
+    (puts_last _ _ _ (pending_lines names u) _ _ c.in_ok-put_pendings.ensures
+    (puts_last _ _ _ (third u.registry.held) _ _ word last))

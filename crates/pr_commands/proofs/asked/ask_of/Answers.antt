@@ -1,0 +1,11 @@
+-- By the name, and what stands behind it.
+use Rattle.std.proofs.Common.{sym, ap, ◌∙◌}
+use Rattle.std.specs.Prelude.{option_and_then, option_map}
+use Rattle.pr_report.specs.TraceText.{names_of}
+use Rattle.pr_commands.specs.Asked.{ask_at, ask_of}
+use Rattle.pr_commands.proofs.asked.ask_of.Goals as goal
+
+pub returns-in_err-equals-clause-ask : goal.returns-in_err-equals-clause-ask
+unfolding ask_of
+returns-in_err-equals-clause-ask c =
+    ap (option_map _) c.from_residual.ensures ∙ sym (ap (option_and_then (ask_at (names_of c.args.nexuses.now) c.args.word.now)) (sym c.equals_of.ensures.place ∙ c.in_err-equals.was))

@@ -1,0 +1,7 @@
+-- so many so far
+use Rattle.std.proofs.Common.{◌≡◌, None}
+use Rattle.std.specs.Prelude.{replicate}
+use Rattle.pr_commands.proofs.asked.nothing_asked.Given as goal
+
+abbrev pub invariant-loop-nexus : goal.invariant-loop-nexus
+invariant-loop-nexus l = l.asked.items ≡ replicate l._nexus None

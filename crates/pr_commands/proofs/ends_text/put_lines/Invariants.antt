@@ -1,0 +1,13 @@
+-- the lines of those before this one
+use Rattle.std.proofs.Common.{drop}
+use Rattle.std.specs.List.{flat_map}
+use Rattle.pr_report.specs.TraceText.{names_of}
+use Rattle.pr_explore.specs.declared.endings.Together.{Together}
+use Rattle.pr_output.specs.Written.{Wrote}
+use Rattle.pr_commands.specs.EndsText.{ends_line}
+use Rattle.pr_commands.proofs.ends_text.put_lines.Given as goal
+
+abbrev pub invariant-loop-together : goal.invariant-loop-together
+invariant-loop-together g l =
+    Wrote (g.W.Write.contents l.fn.writer) (g.W.Write.contents l.writer) (flat_map (λ (t : Together). ends_line (names_of l.nexuses) t.ends.items t.steps) l.all)
+    (flat_map (λ (t : Together). ends_line (names_of l.nexuses) t.ends.items t.steps) (drop l.together-index l.all))
