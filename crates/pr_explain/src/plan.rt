@@ -3,6 +3,7 @@
 ghost use Rattle.std.specs.Prelude.{◌≡◌};
 
 use crate::costing::Cost;
+use crate::fact::Fact;
 use crate::lint::Lint;
 use crate::senders::SentBy;
 use pr_roles::Scenario;
@@ -30,6 +31,8 @@ pub enum Explanation {
         finding: Finding,
         /// Of each item of the run that was found, by what it was sent.
         senders: Vec<SentBy>,
+        /// Of one that is safe all the same: what it is refused for, though it never is so all at once.
+        forgotten: Option<Vec<Fact>>,
     },
 }
 

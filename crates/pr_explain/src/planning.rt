@@ -11,6 +11,7 @@ ghost use Rattle.pr_witness.specs.Ends.{AreEnds};
 ghost use Rattle.pr_explain.specs.Explanations.{Holds, is_refusal, scenario_in};
 
 use crate::costing::costs;
+use crate::forgetting::forgotten;
 use crate::linting::lints;
 use crate::plan::Explanation;
 use crate::senders::{SentBy, senders};
@@ -95,12 +96,14 @@ fn refused(
 {
     let finding = search(alloc, &scenario, &refusal, SHOWN_BOUNDS)?;
     let senders = senders_of(alloc, &scenario, &finding)?;
+    let forgotten = forgotten(alloc, &scenario, refusal, &tables, &finding, SHOWN_BOUNDS)?;
     Ok(Explanation::Refused {
         scenario,
         refusal,
         tables,
         finding,
         senders,
+        forgotten,
     })
 }
 

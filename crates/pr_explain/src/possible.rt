@@ -102,7 +102,8 @@ fn put_waiting<W: Write>(
     put(writer, b"\n")
 }
 
-fn put_attentions<W: Write>(writer: &mut W, attentions: u8) -> Result<(), WriteFault> {
+/// Writes which attentions are, or that nothing is, to be followed by for whom they are pending.
+pub(crate) fn put_attentions<W: Write>(writer: &mut W, attentions: u8) -> Result<(), WriteFault> {
     if attentions == 0 {
         return put(writer, b" nothing is");
     }

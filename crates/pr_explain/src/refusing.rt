@@ -2,6 +2,7 @@
 
 use crate::advice::put_advice;
 use crate::blocks::{depth_behind, end_of};
+use crate::fact::Fact;
 use crate::lint_words::{index_of, put_numbered};
 use crate::possible::put_possible;
 use crate::running::put_finding;
@@ -27,6 +28,7 @@ pub(crate) fn put_refused<W: Write>(
     tables: &[Table],
     finding: &Finding,
     senders: &[SentBy],
+    forgotten: Option<&[Fact]>,
 ) -> Result<(), WriteFault> {
     if refusal == Refusal::Memory {
         return Ok(());
@@ -35,7 +37,9 @@ pub(crate) fn put_refused<W: Write>(
     put(writer, b"\n")?;
     let nexuses = &scenario.parts().nexuses;
     put_reason(writer, lines, nexuses, refusal, tables)?;
-    put_finding(writer, lines, nexuses, refusal, tables, finding, senders)?;
+    put_finding(
+        writer, lines, nexuses, refusal, tables, finding, senders, forgotten,
+    )?;
     put_advice(writer, lines, nexuses, refusal, tables, finding, senders)
 }
 
@@ -163,8 +167,8 @@ fn put_place<W: Write>(
     put_possible(writer, nexuses, name_of(nexuses, host), view)
 }
 
-// What the host can know at this line.
-fn view_at(tables: &[Table], host: u8, line: u32) -> Option<&View> {
+/// What the host can know at this line.
+pub(crate) fn view_at(tables: &[Table], host: u8, line: u32) -> Option<&View> {
     for table in tables {
         if table.outline.host == host {
             for (at, view) in &table.outline.views {

@@ -1,5 +1,6 @@
 //! The run that shows why a scenario is refused, in words, or that none was found.
 
+use crate::fact::Fact;
 use crate::lint_words::{put_numbered, put_widening};
 use crate::linting::is_needed;
 use crate::planning::SHOWN_BOUNDS;
@@ -7,6 +8,7 @@ use crate::refusing::row_at;
 use crate::saying::{Part, name, number, say};
 use crate::senders::SentBy;
 use crate::source::{first_word, is, line_of};
+use crate::unseen::put_unseen;
 use pr_output::{WriteFault, put};
 use pr_roles::{Action, Clause, Item, Nexus};
 use pr_verify::{Refusal, Table};
@@ -23,6 +25,7 @@ pub(crate) fn put_finding<W: Write>(
     tables: &[Table],
     finding: &Finding,
     senders: &[SentBy],
+    forgotten: Option<&[Fact]>,
 ) -> Result<(), WriteFault> {
     match finding {
         Finding::Found { breach, is_told }
@@ -44,6 +47,7 @@ tells now.\n",
         }
         Finding::Safe { worlds } => {
             put_safe(writer, *worlds)?;
+            put_unseen(writer, nexuses, refusal, forgotten)?;
             put_others(writer, lines, nexuses, refusal, tables)
         }
         Finding::Nothing { worlds, bound } => {
@@ -71,7 +75,7 @@ fn reaches_unarmed(broken: Broken, refusal: Refusal, tables: &[Table]) -> bool {
     }
 }
 
-// That nothing goes wrong with these scripts and roles, though `fence check` can't see it.
+// That nothing goes wrong with these scripts and roles.
 fn put_safe<W: Write>(writer: &mut W, worlds: usize) -> Result<(), WriteFault> {
     say(
         writer,
@@ -81,12 +85,7 @@ fn put_safe<W: Write>(writer: &mut W, worlds: usize) -> Result<(), WriteFault> {
             Part::Text(
                 b" states of disk and scripts that can come up were looked at, and nothing goes wrong in any",
             ),
-            Part::Text(
-                b" of them. That is proved. `fence check` can't see it: what it goes by forgets which of",
-            ),
-            Part::Text(
-                b" these come together ('Safe, and refused all the same' in docs/VERDICTS.md).\n",
-            ),
+            Part::Text(b" of them. That is proved."),
         ],
     )
 }

@@ -29,6 +29,16 @@ pub fn write_explanation<W: Write>(
             tables,
             finding,
             senders,
-        } => put_refused(writer, lines, scenario, *refusal, tables, finding, senders),
+            forgotten,
+        } => put_refused(
+            writer,
+            lines,
+            scenario,
+            *refusal,
+            tables,
+            finding,
+            senders,
+            forgotten.as_deref(),
+        ),
     }
 }

@@ -28,7 +28,7 @@ told_plan (Some text) p (Accepted verified costs lints ends) refused read exact 
     refused_is = is;
   },
 )
-told_plan (Some text) p (Refused scenario refusal tables finding senders) refused read exact holds is = (
+told_plan (Some text) p (Refused scenario refusal tables finding senders forgotten) refused read exact holds is = (
   verdict_text (names_in (scenario_of p)) (verdict.Refused refusal),
   record {
     scenario = scenario_of p;

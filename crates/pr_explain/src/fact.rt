@@ -1,0 +1,37 @@
+//! What may be so when a host sends.
+
+use pr_attention::{Attention, Pending};
+use pr_domain::is_among;
+use pr_registry::Held;
+use pr_unit::Unit;
+
+/// Of one thing what may be so when a host sends.
+#[derive(Clone, Copy, Debug, PartialEq, Eq)]
+pub enum Fact {
+    /// The nexus has this key, or none.
+    Key { nexus: u8, key: Option<u64> },
+    /// This is reserved, or nothing.
+    Reserved(Option<Held>),
+    /// These attentions are pending for the host, with a bit for each, or nothing.
+    Pending(u8),
+}
+
+impl Fact {
+    /// Whether it is so of the unit when this host sends.
+    pub(crate) fn is_so(self, unit: &Unit, host: u8) -> bool {
+        let registry = unit.registry();
+        match self {
+            Fact::Key { nexus, key } => nexus < registry.hosts() && registry.key(nexus) == key,
+            Fact::Reserved(held) => registry.held() == held,
+            Fact::Pending(attentions) => {
+                host < registry.hosts() && are_pending(unit.pending(host), attentions)
+            }
+        }
+    }
+}
+
+// Whether just these are pending.
+fn are_pending(pending: &Pending, attentions: u8) -> bool {
+    Attention::ALL.iter().all(|attention| pending.has(*attention)
+        == is_among(*attention, attentions))
+}

@@ -1,0 +1,86 @@
+//! What `fence check` takes into account at a send, though it never is so all at once.
+
+use crate::combination::Combination;
+use crate::fact::Fact;
+use crate::refused_send::RefusedSend;
+use crate::showing::first_refused;
+use pr_explore::{Bounds, Explorer, Goal};
+use pr_roles::Scenario;
+use pr_unit::Unit;
+use pr_verify::{Refusal, Table};
+use pr_witness::Finding;
+use std::alloc::{AllocError, Global};
+
+/// For what a scenario is refused that is safe: facts of the view at the refused send that are never so all at once when it is sent,
+/// as few as can be. There are none where it is never sent. It promises nothing of what it finds.
+pub(crate) fn forgotten(
+    alloc: Global,
+    scenario: &Scenario,
+    refusal: Refusal,
+    tables: &[Table],
+    finding: &Finding,
+    bounds: Bounds,
+) -> Result<Option<Vec<Fact>>, AllocError> {
+    let Finding::Safe { .. } = finding else {
+        return Ok(None);
+    };
+    let Some(refused) = RefusedSend::of(scenario, refusal, tables) else {
+        return Ok(None);
+    };
+    let Some(shown) = first_refused(alloc, &refused)? else {
+        return Ok(None);
+    };
+    let mut explorer = Explorer::new(alloc, scenario, bounds)?;
+    go_through(alloc, &mut explorer)?;
+    if explorer.bound().is_some() {
+        return Ok(None);
+    }
+    let seen = seen_together(alloc, scenario, &explorer, refused.send, &shown.facts)?;
+    match Combination::least_beyond(&seen, shown.facts.len(), shown.chance) {
+        Some(never) => Ok(Some(never.chosen(alloc, &shown.facts)?)),
+        None => Ok(None),
+    }
+}
+
+// Looks at all worlds, as far as the bounds let it.
+fn go_through(alloc: Global, explorer: &mut Explorer<'_>) -> Result<(), AllocError> {
+    let mut hits = Vec::new(alloc);
+    for _ in 0..u32::MAX {
+        if !explorer.expand(&mut hits)? {
+            return Ok(());
+        }
+        hits.truncate(0);
+    }
+    Ok(())
+}
+
+// Which of the facts are so all at once in a world in which this is about to be sent.
+fn seen_together(
+    alloc: Global,
+    scenario: &Scenario,
+    explorer: &Explorer<'_>,
+    send: Goal,
+    facts: &[Fact],
+) -> Result<Vec<Combination>, AllocError> {
+    let mut seen = Vec::new(alloc);
+    for world in 0..explorer.worlds() {
+        if let Some(unit) = explorer.unit_at_send(scenario, world, send) {
+            let together = together(facts, &unit, send.host);
+            if !together.is_within_one(&seen) {
+                seen.push(together)?;
+            }
+        }
+    }
+    Ok(seen)
+}
+
+// Which of them are so of the unit when this host sends.
+fn together(facts: &[Fact], unit: &Unit, host: u8) -> Combination {
+    let mut together = Combination::NONE;
+    for (place, fact) in facts.iter().enumerate() {
+        if fact.is_so(unit, host) {
+            together.add(place);
+        }
+    }
+    together
+}

@@ -1,0 +1,117 @@
+//! What a refused send comes to where less may be so.
+
+ghost use Rattle.std.specs.Prelude.{◌≡◌, true, IsTrue};
+ghost use Rattle.std.specs.List.{All};
+ghost use Rattle.pr_script.specs.Grammar.{has_sense_digit, test_fits};
+
+use crate::refusing::{row_at, view_at};
+use pr_cdb::Command;
+use pr_domain::{Class, Landing, outcomes};
+use pr_explore::Goal;
+use pr_permission::permitted;
+use pr_roles::{Refusals, Role, Scenario};
+use pr_script::limits::MOST_ARMS;
+use pr_script::{Test, is_test_declared, is_written, stands_under};
+use pr_verify::{Refusal, Row, Table};
+use pr_views::{Possibilities, View};
+use std::alloc::{AllocError, Global};
+
+/// A send that is refused for what may be so when it is sent.
+#[derive(Clone, Copy)]
+pub(crate) struct RefusedSend<'a> {
+    pub send: Goal,
+    pub view: &'a View,
+    role: &'a Role,
+    row: &'a Row,
+    /// The class of the reply without an arm; none where the role doesn't permit the command.
+    unarmed: Option<Class>,
+}
+
+// Nobody is refused, since that hangs on no state of the unit.
+const NEVER_REFUSED: Refusals = Refusals {
+    busy: false,
+    full: false,
+};
+
+impl RefusedSend<'_> {
+    /// The send that the refusal tells, if it is one for what may be so when it is sent. (Whether the unit is busy is no such thing.)
+    pub(crate) fn of<'a>(
+        scenario: &'a Scenario,
+        refusal: Refusal,
+        tables: &'a [Table],
+    ) -> Option<RefusedSend<'a>> {
+        let (host, line, unarmed) = match refusal {
+            Refusal::NoArm {
+                class: Class::Busy | Class::Full,
+                ..
+            } => return None,
+            Refusal::NoArm { host, line, class } => (host, line, Some(class)),
+            Refusal::OutOfRole { host, line } => (host, line, None),
+            Refusal::OverBudget { .. } | Refusal::Memory | Refusal::NotSound { .. } => return None,
+        };
+        Some(RefusedSend {
+            send: Goal { host, line },
+            view: view_at(tables, host, line)?,
+            role: &scenario.parts().nexuses.get(usize::from(host))?.role,
+            row: row_at(tables, host, line)?,
+            unarmed,
+        })
+    }
+
+    /// Whether it is refused for the same where no more than this may be so.
+    pub(crate) fn is_refused(
+        &self,
+        alloc: Global,
+        possible: &Possibilities,
+    ) -> Result<bool, AllocError> {
+        let keys = &self.view.keys;
+        let hosts = self.view.hosts;
+        if !possible.are_in_range(keys, hosts) {
+            return Ok(false);
+        }
+        let view = View::of(alloc, keys, hosts, possible)?;
+        self.is_refused_in(alloc, &view)
+    }
+
+    // Whether it is refused for the same in this view.
+    fn is_refused_in(&self, alloc: Global, view: &View) -> Result<bool, AllocError> {
+        let host = self.send.host;
+        let command = self.row.command;
+        let tests = &self.row.tests;
+        if host >= view.hosts || !is_written(&view.keys, command) {
+            return Ok(false);
+        }
+        let Some(class) = self.unarmed else {
+            return Ok(!permitted(view, self.role, host, &command));
+        };
+        if tests.len() > MOST_ARMS || !fit(&view.keys, command, tests) {
+            return Ok(false);
+        }
+        let outcomes = outcomes(alloc, view, host, &command, tests, NEVER_REFUSED)?;
+        let landing = Landing::NoArm(class);
+        Ok(outcomes.iter().any(|outcome| outcome.0 == landing))
+    }
+}
+
+// Whether arms with these tests may stand behind the command.
+fn fit(keys: &[u64], command: Command, tests: &[Test]) -> bool
+    ensures { IsTrue result → All (λ t. test_fits keys.now command t ≡ true) tests.now }
+{
+    tests.iter().all(|test| fits(keys, command, *test))
+}
+
+fn fits(keys: &[u64], command: Command, test: Test) -> bool
+    ensures { result ≡ test_fits keys.now command test }
+{
+    has_sense_digit(test) && stands_under(command, test) && is_test_declared(keys, test)
+}
+
+// A sense key that the test asks for has one hexadecimal digit.
+fn has_sense_digit(test: Test) -> bool
+    ensures { result ≡ has_sense_digit test }
+{
+    match test {
+        Test::Sense(sense) => sense.key < 16,
+        _ => true,
+    }
+}
