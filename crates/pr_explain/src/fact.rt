@@ -32,6 +32,7 @@ impl Fact {
 
 // Whether just these are pending.
 fn are_pending(pending: &Pending, attentions: u8) -> bool {
-    Attention::ALL.iter().all(|attention| pending.has(*attention)
-        == is_among(*attention, attentions))
+    Attention::ALL
+        .iter()
+        .all(|code| pending.has(*code) == is_among(*code, attentions))
 }
