@@ -31,7 +31,8 @@ pub enum Explanation {
         finding: Finding,
         /// Of each item of the run that was found, by what it was sent.
         senders: Vec<SentBy>,
-        /// Of one that is safe all the same: what it is refused for, though it never is so all at once.
+        /// Of one that is safe all the same: for what it is refused, which never is so at once when the refused line is sent; nothing
+        /// where that is never sent.
         forgotten: Option<Vec<Fact>>,
     },
 }
