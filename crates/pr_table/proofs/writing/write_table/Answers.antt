@@ -1,0 +1,29 @@
+-- The script of a scenario fits, so that it has few rows; and it is the host's.
+use Rattle.std.proofs.Common.{ℕ, List, ◌∙◌, subst}
+use Rattle.pr_script.specs.Trees.{script_of}
+use Rattle.pr_roles.specs.Scenarios.{nexus_of, scenario_of}
+use Rattle.pr_output.specs.Written.{Puts}
+use Rattle.pr_verify.proofs.lemmas.Rooms.Nexuses.{scripted_fits, scripted_task}
+use Rattle.pr_table.specs.Rows.{table_rows}
+use Rattle.pr_table.specs.TableText.{table_text}
+use Rattle.pr_table.proofs.lemmas.Rows.Counts.{few_rows}
+use Rattle.pr_table.proofs.lemmas.TableText.Hosts.{scripted_text}
+use Rattle.pr_table.proofs.lemmas.TableText.Lines.{puts_as}
+use Rattle.pr_table.proofs.writing.write_table.Goals as goal
+
+pub put_table-requires : goal.put_table-requires
+put_table-requires g c =
+    let s = scenario_of c.args.scenario.now in
+    let found = c.nexus_in-nexus.ensures in
+    few_rows s.keys (script_of c.in-Scripted.script) (scripted_fits s c.args.host c.nexus_in-nexus.result.now found.nexus c.in-Scripted.script c.in-Scripted.budget c.in-Scripted.is found.fits).0
+
+pub returns : goal.returns
+returns g c =
+    let s = scenario_of c.args.scenario.now in
+    let n = c.nexus_in-nexus.result.now in
+    let b = script_of c.in-Scripted.script in
+    let found = c.nexus_in-nexus.ensures.nexus in
+    let scripted = scripted_task s c.args.host n found c.in-Scripted.script c.in-Scripted.budget c.in-Scripted.is in
+    let name = c.as_bytes.ensures.value ∙ c.as_str.ensures.value in
+    let puts = subst (λ (x : List ℕ). Puts (g.W.Write.contents c.args.writer.now) (g.W.Write.contents c.put_table.new.writer) (table_text x c.in-Scripted.budget (table_rows b)) c.put_table.result) name c.put_table.ensures in
+    puts_as _ _ _ _ _ (scripted_text s c.args.host (nexus_of n) b c.in-Scripted.budget found scripted) puts

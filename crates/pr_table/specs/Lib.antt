@@ -1,0 +1,4 @@
+pub mod Rows
+pub mod TableText
+pub mod Following
+pub mod Laws
