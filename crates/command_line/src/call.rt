@@ -15,6 +15,12 @@ pub enum Call<'a> {
         path: &'a str,
     },
 
+    /// The table of the script of the host with this name.
+    Table {
+        path: &'a str,
+        host: &'a str,
+    },
+
     /// A run that shows why the scripts are refused.
     Witness {
         path: &'a str,
@@ -65,6 +71,10 @@ pub fn call_of<'a>(matches: &'a ArgMatches<'_>) -> Option<Call<'a>> {
         },
         "outline" => Call::Outline {
             path: arguments.get_str("FILE")?,
+        },
+        "table" => Call::Table {
+            path: arguments.get_str("FILE")?,
+            host: arguments.get_str("HOST")?,
         },
         "witness" => Call::Witness {
             path: arguments.get_str("FILE")?,

@@ -14,6 +14,8 @@ const CHECK_CALL: &str = "For example: fence check preempted-writer.fence";
 
 const OUTLINE_CALL: &str = "For example: fence outline missing-arm.fence";
 
+const TABLE_CALL: &str = "For example: fence table preempted-writer.fence a";
+
 const WITNESS_CALL: &str = "For example: fence witness missing-arm.fence";
 
 const ENDS_CALL: &str = "For example: fence ends race.fence, or fence ends race.fence a=won b=won";
@@ -28,7 +30,7 @@ const EXPLAIN_CALL: &str =
     "For example: fence explain missing-arm.fence, or fence explain missing-arm.fence missing-arm.1.trace";
 
 /// What the words of a command line say: the subcommand `check` with one `FILE` or more, `outline`, `witness` or `run` with its
-/// `FILE`, `ends` with its `FILE` and any number of `END`, `replay` with its `FILE` and one `STEP` or more, or the path of a list of
+/// `FILE`, `table` with its `FILE` and its `HOST`, `ends` with its `FILE` and any number of `END`, `replay` with its `FILE` and one `STEP` or more, or the path of a list of
 /// them behind `--steps`, `audit` with its `FILE` and its `TRACE`, or `explain` with its `FILE` and at most one `TRACE`.
 pub fn matches_of<'a>(alloc: Global, words: &'a [String]) -> Result<ArgMatches<'a>, Error> {
     command(alloc)?.try_get_matches_from(words)
@@ -45,6 +47,7 @@ fn command<'a>(alloc: Global) -> Result<Command<'a>, AllocError> {
         .arg_required_else_help(true);
     let command = with(command, check(alloc))?;
     let command = with(command, outline(alloc))?;
+    let command = with(command, table(alloc))?;
     let command = with(command, witness(alloc))?;
     let command = with(command, ends(alloc))?;
     let command = with(command, replay(alloc))?;
@@ -74,6 +77,19 @@ fn outline<'a>(alloc: Global) -> Result<Command<'a>, AllocError> {
         )
         .after_help(OUTLINE_CALL)
         .arg(file(alloc))
+}
+
+fn table<'a>(alloc: Global) -> Result<Command<'a>, AllocError> {
+    let host = Arg::new(alloc, "HOST")
+        .help("The name of the host")
+        .required(true);
+    Command::new(alloc, "table")
+        .about(
+            "Verifies the scripts, and writes that of a host as a table that another program can follow",
+        )
+        .after_help(TABLE_CALL)
+        .arg(file(alloc))?
+        .arg(host)
 }
 
 fn witness<'a>(alloc: Global) -> Result<Command<'a>, AllocError> {

@@ -21,7 +21,7 @@ use clap::error::ErrorKind;
 use command_line::{Call, call_of, matches_of};
 use pr_commands::{
     ExitStatus, Fault, args_fault, do_audit, do_check, do_ends, do_outline, do_replay, do_run,
-    do_witness, ended,
+    do_table, do_witness, ended,
 };
 use std::io::Write;
 use std::process::ExitCode;
@@ -74,6 +74,7 @@ fn run_call<T: Threads + Wait + Sync>(
     match call {
         Call::Check { paths } => Ok(check(rt, paths)),
         Call::Outline { path } => outline(rt, path),
+        Call::Table { path, host } => table(rt, path, host),
         Call::Witness { path } => witness(rt, path),
         Call::Ends { path, asked } => ends(rt, path, asked),
         Call::Replay { path, steps } => replay(rt, path, steps),
@@ -121,6 +122,17 @@ fn check_paths(rt: &HostRuntime, paths: &[&str]) -> ExitStatus {
 fn outline(rt: &HostRuntime, path: &str) -> Result<ExitStatus, Fault> {
     let mut text = open(rt, path)?;
     Ok(do_outline(rt.alloc(), &mut text, &mut rt.stdout(), &mut rt.stderr()))
+}
+
+fn table(rt: &HostRuntime, path: &str, host: &str) -> Result<ExitStatus, Fault> {
+    let mut text = open(rt, path)?;
+    Ok(do_table(
+        rt.alloc(),
+        host,
+        &mut text,
+        &mut rt.stdout(),
+        &mut rt.stderr(),
+    ))
 }
 
 fn witness(rt: &HostRuntime, path: &str) -> Result<ExitStatus, Fault> {

@@ -3,5 +3,6 @@ pub mod Checks
 pub mod Replays
 pub mod Runs
 pub mod Steps
+pub mod Tables
 pub mod Witnesses
 pub mod Ends

@@ -3,6 +3,7 @@ pub mod Endings
 pub mod Ends
 pub mod EndsText
 pub mod Steps
+pub mod Tables
 pub mod WitnessText
 pub mod Witnesses
 pub mod Replays

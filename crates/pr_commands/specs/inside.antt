@@ -6,3 +6,4 @@ pub mod Performances
 pub mod Witnessed
 pub mod FaultRows
 pub mod Gathering
+pub mod JudgedHosts

@@ -57,7 +57,8 @@ fn nothing_asked(alloc: Global, count: usize) -> Result<Vec<Option<End>>, AllocE
     Ok(asked)
 }
 
-fn has_script(scenario: &Scenario, host: u8) -> bool
+/// Whether the nexus with this number is a host that has a script.
+pub(crate) fn has_script(scenario: &Scenario, host: u8) -> bool
     ensures { result ≡ has_script (task (scenario_of scenario.now) host) }
 {
     match scenario.parts().nexuses.get(usize::from(host)) {

@@ -14,6 +14,7 @@ mod outlines;
 mod replays;
 mod runs;
 mod steps;
+mod tables;
 mod witness_text;
 mod witnesses;
 
@@ -27,5 +28,6 @@ pub use outlines::do_outline;
 pub use replays::{MOST_STEPS, do_replay};
 pub use runs::do_run;
 pub use steps::steps_of;
+pub use tables::do_table;
 pub use witness_text::write_witness;
 pub use witnesses::do_witness;

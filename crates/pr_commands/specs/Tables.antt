@@ -1,0 +1,48 @@
+-- Agrees with docs/FORMATS.md, 'Tables'.
+-- What `fence table` writes.
+use Rattle.std.specs.Prelude.{◌≡◌, ℕ, Bool, if◌then◌else◌, List, Option, Some, None, IfSome, option_and_then, Result}
+use Rattle.pr_roles.specs.Scenarios.{Scenario, task}
+use Rattle.pr_text.specs.Reading.{IsWrittenAs}
+use Rattle.pr_report.specs.TraceReadings.{number_of}
+use Rattle.pr_report.specs.TraceText.{names_in}
+use Rattle.pr_report.specs.Verdicts.{is_refusal, verdict_text}
+use Rattle.pr_report.specs.declared.verdict.Verdict.{Verdict}
+use Rattle.pr_report.specs.declared.verdict.Verdict.TheVariants.{Accepted, Refused, Legal, Illegal}
+use Rattle.pr_table.specs.TableText.{host_table_text}
+use Rattle.pr_commands.specs.declared.fault.Fault.{Fault}
+use Rattle.pr_commands.specs.Asked.{has_script}
+use Rattle.pr_commands.specs.Checks.{Holds}
+use Rattle.pr_commands.specs.Endings.{Outputs}
+
+abbrev pub if_scripted : Scenario → ℕ → Option ℕ
+if_scripted s h = if has_script (task s h) then Some h else None
+
+-- the number of the host with this name
+abbrev pub scripted_host : Scenario → List ℕ → Option ℕ
+scripted_host s name = option_and_then (if_scripted s) (number_of (names_in s) name)
+
+-- the host's table where the scenario is accepted, and else the line of the verdict
+abbrev pub answer_text : Scenario → ℕ → Verdict → List ℕ
+answer_text s h Accepted = host_table_text s h
+answer_text s h (Refused reason) = verdict_text (names_in s) (Refused reason)
+answer_text s h (Legal items) = verdict_text (names_in s) (Legal items)
+answer_text s h (Illegal place) = verdict_text (names_in s) (Illegal place)
+
+-- the text is a scenario with a host of this name, and these are the lines by a verdict that holds of it
+pub record IsTableOf (name text lines : List ℕ) (refused : Bool) : Type 0 where
+  pub scenario : Scenario
+  pub read : IsWrittenAs text scenario
+  pub host : ℕ
+  pub found : scripted_host scenario name ≡ Some host
+  pub verdict : Verdict
+  pub holds : Holds verdict scenario
+  pub lines_are : lines ≡ answer_text scenario host verdict
+  pub refused_is : refused ≡ is_refusal verdict
+
+-- the text is a scenario, in which no host has this name
+abbrev pub IsMisnamed : List ℕ → List ℕ → Type 0
+IsMisnamed name text = (s : Scenario) × IsWrittenAs text s × (scripted_host s name ≡ None)
+
+-- What goes to the output. There is no trace and no thread.
+abbrev pub EndsTable : List ℕ → Option (List ℕ) → Option (List ℕ) → Option (List ℕ) → Result Bool Fault → Type 0
+EndsTable name known old new r = Outputs (IsTableOf name) (IfSome known (IsMisnamed name)) (λ e. ⊥) (λ name. ⊥) ⊥ known old new r
