@@ -15,7 +15,7 @@ pub use Rattle.pr_cdb.specs.declared.command.Command.{Command}
 pub use Rattle.pr_cdb.specs.declared.reply.Reply.{Reply}
 pub use Rattle.pr_cdb.specs.declared.wire.Request.TheVariants.{Plain}
 pub use Rattle.pr_unit.specs.Steps.{Step}
-pub use Rattle.pr_unit.specs.UnitStates.{UnitState, is_any_pending}
+pub use Rattle.pr_unit.specs.UnitStates.{UnitState}
 pub use Rattle.pr_script.specs.Costs.{cost_of_all}
 pub use Rattle.pr_script.specs.Grammar.{rise_above, script_fits}
 pub use Rattle.pr_script.specs.Scripts.{Stmt, sends, repeats, stops, Stmts, none, more, Arms, no_arm, arm, Configuration}
@@ -28,10 +28,10 @@ pub use Rattle.pr_roles.specs.Answers.{Answers}
 pub use Rattle.pr_roles.specs.DeclaredRefusals.{Answered, refusals_of}
 pub use Rattle.pr_roles.specs.Permits.{command_permitted}
 unfoldable pub use Rattle.pr_roles.specs.Safety.{IsSafe}
-pub use Rattle.pr_roles.specs.Scenarios.{Task, Scripted, Nexus, role, task, Scenario, nexus, task_of}
+pub use Rattle.pr_roles.specs.Scenarios.{Task, Scripted, role, task, Scenario, task_of}
 unfoldable pub use Rattle.pr_roles.specs.Scenarios.{scenario_of}
 pub use Rattle.pr_roles.specs.Starts.{IsAllowedStart}
-pub use Rattle.pr_roles.specs.Worlds.{World, control, after, Host, world_from}
+pub use Rattle.pr_roles.specs.Worlds.{World, control, Host, world_from}
 pub use Rattle.pr_roles.specs.declared.how.How.{How}
 pub use Rattle.pr_roles.specs.declared.how.Refusals.{Refusals}
 pub use Rattle.pr_views.specs.Possibilities.{Scope, IsScope, Item, Registration, Reservation, Attentions, IsSo}

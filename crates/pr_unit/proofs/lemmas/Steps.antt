@@ -2,4 +2,3 @@ pub mod Existence
 pub mod QuietSteps
 pub mod Statuses
 pub mod WellFormedSteps
-pub mod WorkedRows

@@ -2,4 +2,3 @@ pub mod Checks
 pub mod LineOrder
 pub mod Lookups
 pub mod UnnoticedCommands
-pub mod WorkedExample

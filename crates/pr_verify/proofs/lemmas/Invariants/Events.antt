@@ -1,5 +1,5 @@
 -- What every event keeps: of what a script has still to do, its invariant is true, by the history and the unit.
-use Rattle.pr_verify.proofs.Common.{◌≡◌, ℕ, ◌<◌, ◌≤◌, true, false, ◌≢◌, ◌⊎◌, List, [], ◌∷◌, length, IsTrue, ◌==◌, Some, None, Option, sym, refl, ap, ◌∙◌, subst, inl, inr, arith, false≢true, eqb_tells, none-some, Command, Reply, Plain, UnitState, Stmts, Configuration, Task, Scripted, role, task, Scenario, IsAllowedStart, World, control, after, Host, world_from, How, IsDone, OnScripted}
+use Rattle.pr_verify.proofs.Common.{◌≡◌, ℕ, ◌<◌, ◌≤◌, true, false, ◌≢◌, ◌⊎◌, List, [], ◌∷◌, length, IsTrue, ◌==◌, Some, None, Option, sym, refl, ap, ◌∙◌, subst, inl, inr, arith, false≢true, eqb_tells, none-some, Command, Reply, Plain, UnitState, Stmts, Configuration, Task, Scripted, role, task, Scenario, IsAllowedStart, World, control, Host, world_from, How, IsDone, OnScripted}
 use Rattle.pr_cdb.specs.declared.wire.Wire.{Wire}
 use Rattle.pr_cdb.specs.Ranges.{FitsWhereRead}
 use Rattle.pr_cdb.specs.Spelling.{spelling}
@@ -7,7 +7,7 @@ use Rattle.pr_cdb.proofs.lemmas.FieldRanges.{reads_fit}
 use Rattle.pr_script.specs.Scripts.{ready, first_configuration}
 use Rattle.pr_roles.specs.declared.item.Item.{Item}
 use Rattle.pr_roles.specs.Scenarios.{Planned}
-use Rattle.pr_roles.specs.Worlds.{Going, Free, Event, Guest, UnitReset, HostSends, GuestSends, IsReset, Happens, Run, after_reset, control_after, going_or_trapped, is_guest_task, commands_by, standing_of, entry_of, may_reset}
+use Rattle.pr_roles.specs.Worlds.{Going, Free, Event, Guest, UnitReset, HostSends, GuestSends, IsReset, Happens, Run, after_reset, control_after, going_or_trapped, is_guest_task, commands_by, standing_of, entry_of, may_reset, after}
 use Rattle.pr_roles.specs.Permits.{is_permitted}
 use Rattle.pr_roles.specs.Safety.{KeepsRole}
 use Rattle.pr_unit.specs.Replies.{is_good}

@@ -1,12 +1,12 @@
 -- A command that does not end GOOD leaves the state as it is, or reports an attention of its sender. A REQUEST SENSE in
 -- its place would have reported that too, and ended GOOD. So to the others each command is one that ends GOOD, or none.
-use Rattle.pr_verify.proofs.Common.{◌≡◌, ℕ, Bool, true, false, ◌⊎◌, List, IsTrue, Some, None, Ok, Option, sym, refl, ◌∙◌, inl, inr, false≢true, Reply, Plain, Step, UnitState, is_any_pending, Answers, How, IsDone}
+use Rattle.pr_verify.proofs.Common.{◌≡◌, ℕ, Bool, true, false, ◌⊎◌, List, IsTrue, Some, None, Ok, Option, sym, refl, ◌∙◌, inl, inr, false≢true, Reply, Plain, Step, UnitState, Answers, How, IsDone}
 use Rattle.pr_cdb.specs.declared.command.Command.TheVariants.{RequestSense}
 use Rattle.pr_cdb.specs.declared.reply.Sense.{Sense}
 use Rattle.pr_cdb.specs.declared.wire.Request.{Request}
 use Rattle.pr_cdb.specs.Ranges.{FitsWhereRead}
 use Rattle.pr_unit.specs.Attentions.{power_on}
-use Rattle.pr_unit.specs.UnitStates.{is_pending, after_report}
+use Rattle.pr_unit.specs.UnitStates.{is_pending, after_report, is_any_pending}
 use Rattle.pr_unit.specs.Conflicts.{conflicts}
 use Rattle.pr_unit.specs.Faults.{fault}
 use Rattle.pr_unit.specs.Replies.{is_good, report}

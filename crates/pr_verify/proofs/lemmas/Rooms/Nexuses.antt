@@ -1,8 +1,8 @@
 -- The nexuses of a scenario, as they are kept.
-use Rattle.pr_verify.proofs.Common.{◌≡◌, ℕ, ◌<◌, ◌≤◌, true, ◌&&◌, [], length, nat_le, slice_get, Some, None, Option, Vec, Global, sym, refl, ap, ◌∙◌, subst, leb-true, option_map_or, and_parts, slice_get_within, Command, script_fits, script_of, Scripted, Nexus, role, task, Scenario, nexus, task_of, IsScripted}
+use Rattle.pr_verify.proofs.Common.{◌≡◌, ℕ, ◌<◌, ◌≤◌, true, ◌&&◌, [], length, nat_le, slice_get, Some, None, Option, Vec, Global, sym, refl, ap, ◌∙◌, subst, leb-true, option_map_or, and_parts, slice_get_within, Command, script_fits, script_of, Scripted, role, task, Scenario, task_of, IsScripted}
 use Rattle.pr_roles.specs.declared.parts.Nexus.{Nexus as NexusPart}
 use Rattle.pr_roles.specs.declared.parts.Task.TheVariants as part
-use Rattle.pr_roles.specs.Scenarios.{nexus_of}
+use Rattle.pr_roles.specs.Scenarios.{nexus_of, Nexus, nexus}
 use Rattle.pr_roles.specs.Fitting.{Fits, is_role, is_task}
 use Rattle.pr_script.specs.declared.script.Script.{Script}
 use Rattle.pr_interference.proofs.lemmas.Interference.Nexuses.{nexus_fits}
