@@ -28,6 +28,9 @@ pub use Rattle.pr_unit.specs.UnitStates.{UnitState, is_pending, is_any_pending, 
 pub use Rattle.pr_script.specs.Grammar.{is_written_key, is_written, test_fits}
 pub use Rattle.pr_script.specs.Takes.{matches}
 pub use Rattle.pr_script.specs.declared.script.Test.{Test}
+pub use Rattle.pr_script.specs.declared.landing.Class.{Class}
+pub use Rattle.pr_script.specs.declared.landing.Class.TheVariants.{Good, Conflict, Busy, Full}
+pub use Rattle.pr_script.specs.declared.landing.Landing.{Landing}
 pub use Rattle.pr_roles.specs.DeclaredRefusals.{Answered}
 pub use Rattle.pr_roles.specs.Fitting.{is_reservation, AreDeclared}
 pub use Rattle.pr_roles.specs.Scenarios.{Scenario, nexus}
@@ -52,9 +55,6 @@ pub use Rattle.pr_regions.specs.declared.region.Region.{Region}
 pub use Rattle.pr_regions.specs.declared.region.Transition.{Transition}
 pub use Rattle.pr_regions.proofs.lemmas.Portions.GatheredStates.{same_reservation}
 pub use Rattle.pr_domain.specs.Landings.{IsClass, IsLanding}
-pub use Rattle.pr_domain.specs.declared.landing.Class.{Class}
-pub use Rattle.pr_domain.specs.declared.landing.Class.TheVariants.{Good, Conflict, Busy, Full}
-pub use Rattle.pr_domain.specs.declared.landing.Landing.{Landing}
 pub use Rattle.pr_domain.specs.declared.reporting.Unserved.{Unserved}
 pub use Rattle.pr_domain.specs.declared.tally.Tally.{Tally}
 pub use Rattle.pr_domain.specs.inside.Beginning.{may_have, has_reservation, stays, AreAlternatives}

@@ -4,11 +4,11 @@ use Rattle.std.specs.Prelude.{◌≡◌, List, Some, None}
 use Rattle.pr_cdb.specs.declared.reply.Reply.{Reply}
 use Rattle.pr_cdb.specs.declared.reply.Status.TheVariants as status
 use Rattle.pr_script.specs.declared.script.Test.{Test}
+use Rattle.pr_script.specs.declared.landing.Landing.{Landing}
+use Rattle.pr_script.specs.declared.landing.Landing.TheVariants.{Arm, NoArm}
+use Rattle.pr_script.specs.declared.landing.Class.{Class}
+use Rattle.pr_script.specs.declared.landing.Class.TheVariants.{Good, Conflict, Busy, Full, Sense}
 use Rattle.pr_regions.specs.Readings.{first_test}
-use Rattle.pr_domain.specs.declared.landing.Landing.{Landing}
-use Rattle.pr_domain.specs.declared.landing.Landing.TheVariants.{Arm, NoArm}
-use Rattle.pr_domain.specs.declared.landing.Class.{Class}
-use Rattle.pr_domain.specs.declared.landing.Class.TheVariants.{Good, Conflict, Busy, Full, Sense}
 
 -- how a reply ended
 abbrev pub IsClass : Reply → Class → Type 0

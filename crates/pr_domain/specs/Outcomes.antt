@@ -7,11 +7,11 @@ use Rattle.pr_cdb.specs.declared.reply.Reply.{Reply}
 use Rattle.pr_cdb.specs.declared.wire.Request.TheVariants.{Plain}
 use Rattle.pr_unit.specs.UnitStates.{UnitState}
 use Rattle.pr_script.specs.declared.script.Test.{Test}
+use Rattle.pr_script.specs.declared.landing.Landing.{Landing}
 use Rattle.pr_roles.specs.declared.how.Refusals.{Refusals}
 use Rattle.pr_roles.specs.DeclaredRefusals.{Answered}
 use Rattle.pr_views.specs.Possibilities.{Item, IsSo}
 use Rattle.pr_views.specs.Views.{View, IsPossible, Shows}
-use Rattle.pr_domain.specs.declared.landing.Landing.{Landing}
 use Rattle.pr_domain.specs.Landings.{IsLanding}
 
 -- From a shown state the owner's command, which may meet these refusals, ends with this landing, and this is so after it.

@@ -5,36 +5,31 @@ ghost use Rattle.pr_cdb.specs.declared.reply.Reply.{Reply};
 ghost use Rattle.pr_domain.specs.Landings.{IsClass, IsLanding};
 ghost use Rattle.pr_domain.specs.inside.Reporting.{takes, sense_of, AreBlind};
 
-use crate::landing::{Class, Landing};
 use pr_cdb::Sense;
 use pr_cdb::codes::UNIT_ATTENTION;
-use pr_script::Test;
+use pr_script::{Class, Landing, Test};
 
-impl Class {
-    // Whether the test takes replies of the class by status and sense alone. One that looks at data takes none so.
-    fn is_taken_by(self, test: Test) -> bool
-        ensures { result ≡ takes test self }
-    {
-        match test {
-            Test::Good => self == Class::Good,
-            Test::GoodHas(_) | Test::GoodHeld(_) | Test::GoodUnheld => false,
-            Test::Conflict => self == Class::Conflict,
-            Test::Busy => self == Class::Busy,
-            Test::Full => self == Class::Full,
-            Test::Attention => self
-                .sense()
-                .is_some_and(|sense| sense.key == UNIT_ATTENTION),
-            Test::Sense(wanted) => self.sense() == Some(wanted),
-        }
+// Whether the test takes replies of the class by status and sense alone. One that looks at data takes none so.
+fn is_taken_by(class: Class, test: Test) -> bool
+    ensures { result ≡ takes test class }
+{
+    match test {
+        Test::Good => class == Class::Good,
+        Test::GoodHas(_) | Test::GoodHeld(_) | Test::GoodUnheld => false,
+        Test::Conflict => class == Class::Conflict,
+        Test::Busy => class == Class::Busy,
+        Test::Full => class == Class::Full,
+        Test::Attention => sense_in(class).is_some_and(|sense| sense.key == UNIT_ATTENTION),
+        Test::Sense(wanted) => sense_in(class) == Some(wanted),
     }
+}
 
-    fn sense(self) -> Option<Sense>
-        ensures { result ≡ sense_of self }
-    {
-        match self {
-            Class::Good | Class::Conflict | Class::Busy | Class::Full => None,
-            Class::Sense(sense) => Some(sense),
-        }
+fn sense_in(class: Class) -> Option<Sense>
+    ensures { result ≡ sense_of class }
+{
+    match class {
+        Class::Good | Class::Conflict | Class::Busy | Class::Full => None,
+        Class::Sense(sense) => Some(sense),
     }
 }
 
@@ -42,7 +37,7 @@ impl Class {
 pub(crate) fn first_arm(tests: &[Test], class: Class) -> Option<usize>
     ensures { result ≡ position (λ t. takes t class) tests.now }
 {
-    tests.iter().position(|test| class.is_taken_by(*test))
+    tests.iter().position(|test| is_taken_by(class, *test))
 }
 
 /// Where a reply of this class goes on whose data no test looks at.

@@ -8,7 +8,7 @@ ghost use Rattle.pr_views.specs.Views.{IsPossible};
 ghost use Rattle.pr_views.specs.Rooms.{view_of};
 ghost use Rattle.pr_domain.specs.inside.Reporting.{AreKept, AreMore};
 
-use crate::landing::Landing;
+use pr_script::Landing;
 use pr_sets::ViewSet;
 use pr_views::ViewOf;
 use std::alloc::{AllocError, Global};

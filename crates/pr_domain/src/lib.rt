@@ -4,7 +4,6 @@
 mod arms;
 mod attentions;
 mod collecting;
-mod landing;
 mod outcome;
 mod reporting;
 mod starting;
@@ -14,8 +13,8 @@ mod tested;
 mod twins;
 
 pub use attentions::is_among;
-pub use landing::{Class, Landing};
 pub use outcome::outcomes;
+pub use pr_script::{Class, Landing};
 pub use pr_sets::{ListSet, ViewSet, WordSet};
 pub use pr_views::{View, ViewOf};
 pub use starting::of_start;

@@ -7,13 +7,12 @@ ghost use Rattle.pr_script.specs.Grammar.{is_written, test_fits};
 ghost use Rattle.pr_views.specs.Rooms.{view_of, AreAlike};
 ghost use Rattle.pr_domain.specs.Outcomes.{AreOutcomes};
 
-use crate::landing::Landing;
 use crate::reporting::Sending;
 use crate::tallying::tally;
 use crate::tested::TestedCommand;
 use pr_cdb::{Command, in_range};
 use pr_roles::Refusals;
-use pr_script::Test;
+use pr_script::{Landing, Test};
 use pr_sets::ViewSet;
 use pr_views::ViewOf;
 use std::alloc::{AllocError, Global};

@@ -21,7 +21,6 @@ ghost use Rattle.pr_domain.specs.inside.Tallies.{IsTally, scope_at};
 use crate::arms::landing_of;
 use crate::attentions::{after_report, those_without};
 use crate::collecting::put;
-use crate::landing::{Class, Landing};
 use crate::tally::Tally;
 use crate::tested::TestedCommand;
 use pr_attention::Attention;
@@ -32,6 +31,7 @@ use pr_cdb::codes::{
 use pr_cdb::{Command, Sense};
 use pr_roles::Refusals;
 use pr_script::limits::MOST_ARMS;
+use pr_script::{Class, Landing};
 use pr_sets::{BitSet, ViewSet};
 use pr_unit::illegal;
 use pr_views::{Possibilities, ViewOf};

@@ -15,7 +15,6 @@ ghost use Rattle.pr_domain.specs.inside.Tallies.{AddsBranch, AddsBranches, AddsA
 ghost use Rattle.pr_domain.specs.inside.TestedCommands.{AddsAlike, AddsPlace, AddsReservation, AreAlike, IsTallyOf};
 
 use crate::arms::first_arm;
-use crate::landing::Class;
 use crate::tally::Tally;
 use crate::tested::TestedCommand;
 use crate::twins::twin_of;
@@ -25,6 +24,7 @@ use pr_regions::{
     Branch, Ending, Place, Purpose, Reading, Region, Standing, branches, change_to_reservation,
     is_refused, purpose_of, readings, registrations_after, standing_of,
 };
+use pr_script::Class;
 use pr_script::limits::MOST_ARMS;
 use pr_sets::{BitSet, Wide};
 use pr_views::{MOST_REGISTRATIONS, Possibilities};

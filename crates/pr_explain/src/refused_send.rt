@@ -6,12 +6,12 @@ ghost use Rattle.pr_script.specs.Grammar.{has_sense_digit, test_fits};
 
 use crate::refusing::{row_at, view_at};
 use pr_cdb::Command;
-use pr_domain::{Class, Landing, outcomes};
+use pr_domain::outcomes;
 use pr_explore::Goal;
 use pr_permission::permitted;
 use pr_roles::{Refusals, Role, Scenario};
 use pr_script::limits::MOST_ARMS;
-use pr_script::{Test, is_test_declared, is_written, stands_under};
+use pr_script::{Class, Landing, Test, is_test_declared, is_written, stands_under};
 use pr_verify::{Refusal, Row, Table};
 use pr_views::{Possibilities, View};
 use std::alloc::{AllocError, Global};

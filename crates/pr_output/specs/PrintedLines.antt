@@ -7,8 +7,8 @@ use Rattle.std.specs.Int.{w32, to_be_bytes}
 use Rattle.pr_cdb.specs.declared.command.Kind.{Kind}
 use Rattle.pr_cdb.specs.declared.reply.Sense.{Sense}
 use Rattle.pr_cdb.specs.Kinds.{code_of}
-use Rattle.pr_domain.specs.declared.landing.Class.{Class}
-use Rattle.pr_domain.specs.declared.landing.Class.TheVariants as class
+use Rattle.pr_script.specs.declared.landing.Class.{Class}
+use Rattle.pr_script.specs.declared.landing.Class.TheVariants as class
 
 -- each word after a space
 unfoldable pub joined_by_spaces : List (List ℕ) → List ℕ

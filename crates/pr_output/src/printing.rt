@@ -10,7 +10,7 @@ ghost use Rattle.pr_output.specs.Printed.{printed_word, printed_words, printed_l
 use crate::bytes::{WriteFault, put};
 use itoa::Buffer;
 use pr_cdb::{Kind, Sense};
-use pr_domain::Class;
+use pr_script::Class;
 use std::io::Write;
 
 /// A token of a line: what one of its words can be.

@@ -6,7 +6,7 @@ use Rattle.pr_cdb.specs.declared.command.Command.TheVariants.{TestUnitReady, Req
 use Rattle.pr_cdb.specs.declared.command.Kind.{Kind}
 use Rattle.pr_script.specs.declared.script.Test.{Test}
 use Rattle.pr_script.specs.declared.script.Test.TheVariants.{Good, GoodHas, GoodHeld, GoodUnheld, Conflict, Busy, Full, Attention, Sense}
-use Rattle.pr_domain.specs.declared.landing.Class.TheVariants as class
+use Rattle.pr_script.specs.declared.landing.Class.TheVariants as class
 use Rattle.pr_output.specs.PrintedLines.{key_word, reservation_key_word, service_action_key_word, type_word, class_word}
 
 -- ---- commands

@@ -10,9 +10,9 @@ ghost use Rattle.pr_report.specs.TraceText.{names_of, names_under};
 ghost use Rattle.pr_report.specs.Verdicts.{IsReason, IsVerdict, is_refusal, no_arm_words, over_budget_words, place_words, reason_words, verdict_text};
 
 use crate::trace::name_of;
-use pr_domain::Class;
 use pr_output::{Token, WriteFault, put_line};
 use pr_roles::{Nexus, Scenario};
+use pr_script::Class;
 use pr_verify::Refusal;
 use std::io::Write;
 

@@ -12,6 +12,7 @@ mod compile;
 mod counts;
 mod depth;
 mod grammar;
+mod landing;
 mod laws;
 pub mod limits;
 mod machine;
@@ -28,6 +29,7 @@ pub use depth::repeat_depth;
 pub use grammar::{
     WRITTEN_LENGTH, is_declared, is_test_declared, is_written, is_written_key, stands_under,
 };
+pub use landing::{Class, Landing};
 pub use laws::{cost_bounds_sends, fitting_is_shallow, limits_agree, settles};
 pub use machine::Machine;
 pub use names::is_name;

@@ -16,10 +16,9 @@ ghost use Rattle.pr_table.specs.declared.counts.TheConstants.{MOST_ROWS};
 
 use crate::counts::{row_count, row_count_of_all};
 use pr_cdb::{Command, encode};
-use pr_domain::Class;
 use pr_output::{Token, WriteFault, put, put_line, put_spaced};
 use pr_roles::{Scenario, Task};
-use pr_script::{Arm, Script, Statement, Test};
+use pr_script::{Arm, Class, Script, Statement, Test};
 use pr_verify::nexus_in;
 use std::io::Write;
 

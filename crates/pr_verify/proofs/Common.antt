@@ -24,6 +24,9 @@ pub use Rattle.pr_script.specs.Takes.{matches}
 pub use Rattle.pr_script.specs.Trees.{statements_in, script_of}
 pub use Rattle.pr_script.specs.declared.script.Test.{Test}
 pub use Rattle.pr_script.specs.inside.ArmLists.{arms_in}
+pub use Rattle.pr_script.specs.declared.landing.Class.{Class}
+pub use Rattle.pr_script.specs.declared.landing.Landing.{Landing}
+pub use Rattle.pr_script.specs.declared.landing.Landing.TheVariants.{NoArm, Arm}
 pub use Rattle.pr_roles.specs.Answers.{Answers}
 pub use Rattle.pr_roles.specs.DeclaredRefusals.{Answered, refusals_of}
 pub use Rattle.pr_roles.specs.Permits.{command_permitted}
@@ -43,9 +46,6 @@ pub use Rattle.pr_views.proofs.lemmas.Views.Values.{fits}
 pub use Rattle.pr_domain.specs.Landings.{IsLanding}
 pub use Rattle.pr_domain.specs.Outcomes.{Outcome, IsExpected, AreOutcomes}
 pub use Rattle.pr_domain.specs.Starting.{IsOfStart}
-pub use Rattle.pr_domain.specs.declared.landing.Class.{Class}
-pub use Rattle.pr_domain.specs.declared.landing.Landing.{Landing}
-pub use Rattle.pr_domain.specs.declared.landing.Landing.TheVariants.{NoArm, Arm}
 pub use Rattle.pr_domain.proofs.lemmas.Outcomes.Coverage.{contains_from_get}
 pub use Rattle.pr_domain.proofs.lemmas.Starting.WrittenNumbers.{are_counted}
 pub use Rattle.pr_permission.specs.Permission.{IsPermittedIn, IsRefusedIn}

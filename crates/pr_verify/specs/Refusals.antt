@@ -11,13 +11,13 @@ use Rattle.pr_unit.specs.Steps.{Step}
 use Rattle.pr_script.specs.declared.limits.TheConstants.{MOST_BUDGET}
 use Rattle.pr_script.specs.Scripts.{Stmts}
 use Rattle.pr_script.specs.Costs.{cost_of_all}
+use Rattle.pr_script.specs.declared.landing.Class.{Class}
+use Rattle.pr_script.specs.declared.landing.Class.TheVariants.{Good, Conflict, Busy, Full, Sense}
 use Rattle.pr_roles.specs.DeclaredRefusals.{Answered, refusals_of}
 use Rattle.pr_roles.specs.Permits.{command_permitted}
 use Rattle.pr_roles.specs.Scenarios.{Scenario, role}
 use Rattle.pr_regions.specs.Readings.{first_test}
 use Rattle.pr_domain.specs.Landings.{IsClass}
-use Rattle.pr_domain.specs.declared.landing.Class.{Class}
-use Rattle.pr_domain.specs.declared.landing.Class.TheVariants.{Good, Conflict, Busy, Full, Sense}
 use Rattle.pr_verify.specs.declared.refusal.Refusal.{Refusal}
 use Rattle.pr_verify.specs.declared.refusal.Refusal.TheVariants.{NoArm, OutOfRole, OverBudget, Memory, NotSound}
 use Rattle.pr_verify.specs.Places.{Place, places_of}

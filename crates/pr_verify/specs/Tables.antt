@@ -8,10 +8,10 @@ use Rattle.pr_cdb.specs.declared.wire.Request.TheVariants.{Plain}
 use Rattle.pr_unit.specs.UnitStates.{UnitState}
 use Rattle.pr_script.specs.declared.script.Test.{Test}
 use Rattle.pr_script.specs.Scripts.{Stmts}
+use Rattle.pr_script.specs.declared.landing.Class.{Class}
 use Rattle.pr_roles.specs.DeclaredRefusals.{Answered, refusals_of}
 use Rattle.pr_roles.specs.Scenarios.{Scenario, Task, Scripted, Planned, task}
 use Rattle.pr_regions.specs.Readings.{first_test}
-use Rattle.pr_domain.specs.declared.landing.Class.{Class}
 use Rattle.pr_verify.specs.Places.{Place, places_of}
 use Rattle.pr_verify.specs.Outlines.{Outline, OnScripted, IsShownAt, KeepsToRole}
 use Rattle.pr_verify.specs.Refusals.{class_number, LacksArm}

@@ -2,7 +2,7 @@
 
 ghost use Rattle.pr_verify.specs.declared.refusal.Refusal.TheVariants.{Memory};
 
-use pr_domain::Class;
+use pr_script::Class;
 use std::alloc::AllocError;
 use thiserror::Error;
 

@@ -4,8 +4,7 @@ ghost use Rattle.std.specs.Prelude.{◌≡◌, length};
 
 use crate::outline::Outline;
 use pr_cdb::Command;
-use pr_domain::Class;
-use pr_script::Test;
+use pr_script::{Class, Test};
 
 /// What is known at a send of a script.
 #[derive(Debug, Drop)]

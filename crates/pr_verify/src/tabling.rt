@@ -2,8 +2,8 @@
 
 ghost use Rattle.std.specs.Prelude.{◌≡◌, ◌<◌, ◌↔◌, ℕ, length, map, IsTrue, IfOk};
 ghost use Rattle.std.specs.List.{AllPairs, AllZip, Contains};
-ghost use Rattle.pr_domain.specs.declared.landing.Class.{Class};
-ghost use Rattle.pr_domain.specs.declared.landing.Landing.TheVariants.{Arm};
+ghost use Rattle.pr_script.specs.declared.landing.Class.{Class};
+ghost use Rattle.pr_script.specs.declared.landing.Landing.TheVariants.{Arm};
 ghost use Rattle.pr_roles.specs.Scenarios.{scenario_of, task};
 ghost use Rattle.pr_verify.specs.Outlines.{OnScripted};
 ghost use Rattle.pr_verify.specs.Refusals.{class_number};
@@ -20,8 +20,8 @@ use crate::places::{Spot, spots};
 use crate::refusal::Refusal;
 use crate::reviewing::{first_unarmed, number_of, review};
 use crate::table::{Row, Table};
-use pr_domain::{Class, Landing};
 use pr_roles::{Scenario, Task};
+use pr_script::{Class, Landing};
 use pr_sets::ViewSet;
 use pr_views::ViewOf;
 use std::alloc::{AllocError, Global};

@@ -4,8 +4,8 @@ use crate::sense::put_sense;
 use pr_cdb::{
     Command, Reply, Request, Sense, Status, Wire, decode, decode_sense, holder_of, keys_of,
 };
-use pr_domain::Class;
 use pr_output::{Token, WriteFault, put, put_spaced};
+use pr_script::Class;
 use std::io::Write;
 
 const GOOD: &[u8] = b"GOOD";

@@ -17,6 +17,10 @@ use Rattle.pr_unit.specs.Replies.{good, check, conflict, busy, full, report, dat
 use Rattle.pr_script.specs.declared.script.Test.{Test}
 use Rattle.pr_script.specs.declared.script.Test.TheVariants as test
 use Rattle.pr_script.specs.Takes.{is_attention, is_sense}
+use Rattle.pr_script.specs.declared.landing.Landing.{Landing}
+use Rattle.pr_script.specs.declared.landing.Landing.TheVariants.{Arm, NoArm}
+use Rattle.pr_script.specs.declared.landing.Class.{Class}
+use Rattle.pr_script.specs.declared.landing.Class.TheVariants.{Good, Conflict, Busy, Full, Sense as WithSense}
 use Rattle.pr_roles.specs.declared.how.Refusals.{Refusals}
 use Rattle.pr_sets.specs.declared.bit_set.BitSet.{BitSet}
 use Rattle.pr_sets.specs.BitSets.{has}
@@ -28,10 +32,6 @@ use Rattle.pr_views.specs.Possibilities.{Scope, Item, IsSo, count_of_attentions}
 use Rattle.pr_views.specs.Views.{View, IsPossible, Shows}
 use Rattle.pr_views.specs.Portions.{view_in}
 use Rattle.pr_views.specs.Rooms.{view_of}
-use Rattle.pr_domain.specs.declared.landing.Landing.{Landing}
-use Rattle.pr_domain.specs.declared.landing.Landing.TheVariants.{Arm, NoArm}
-use Rattle.pr_domain.specs.declared.landing.Class.{Class}
-use Rattle.pr_domain.specs.declared.landing.Class.TheVariants.{Good, Conflict, Busy, Full, Sense as WithSense}
 use Rattle.pr_domain.specs.declared.reporting.Unserved.{Unserved}
 use Rattle.pr_domain.specs.declared.reporting.Unserved.TheVariants as refused
 use Rattle.pr_domain.specs.Landings.{IsLanding}

@@ -4,13 +4,13 @@ use Rattle.pr_sets.specs.declared.bit_set.BitSet.{BitSet}
 use Rattle.pr_sets.specs.declared.view_set.ViewSet.{Ghosts as ViewSet}
 use Rattle.pr_sets.specs.BitSets.{has}
 use Rattle.pr_sets.specs.Wides.{has_wide}
+use Rattle.pr_script.specs.declared.landing.Landing.{Landing}
 use Rattle.pr_views.specs.declared.possibilities.Possibilities.{Possibilities}
 use Rattle.pr_views.specs.declared.view.ViewOf.{ViewOf}
 use Rattle.pr_views.specs.Possibilities.{Scope, Item}
 use Rattle.pr_views.specs.Views.{View}
 use Rattle.pr_views.specs.Portions.{view_in}
 use Rattle.pr_views.specs.Rooms.{view_of, AreInRange}
-use Rattle.pr_domain.specs.declared.landing.Landing.{Landing}
 use Rattle.pr_domain.specs.declared.reporting.Unserved.{Unserved}
 use Rattle.pr_domain.specs.declared.reporting.Sending.{Sending}
 use Rattle.pr_domain.specs.Outcomes.{AreOutcomes}

@@ -2,6 +2,7 @@
 use Rattle.std.specs.Prelude.{◌≡◌, ℕ, ◌<◌, List, length, Option, Some}
 use Rattle.std.specs.List.{slice_get, All}
 use Rattle.pr_script.specs.Scripts.{Stmts}
+use Rattle.pr_script.specs.declared.landing.Landing.{Landing}
 use Rattle.pr_roles.specs.declared.how.Refusals.{Refusals}
 use Rattle.pr_roles.specs.DeclaredRefusals.{refusals_of}
 use Rattle.pr_roles.specs.Scenarios.{Scenario, scenario_of}
@@ -9,7 +10,6 @@ use Rattle.pr_sets.specs.declared.view_set.ViewSet.{Ghosts as ViewSet}
 use Rattle.pr_views.specs.declared.view.ViewOf.{ViewOf}
 use Rattle.pr_views.specs.Views.{View}
 use Rattle.pr_views.specs.Rooms.{view_of}
-use Rattle.pr_domain.specs.declared.landing.Landing.{Landing}
 use Rattle.pr_interference.specs.Interference.{IsClosed}
 use Rattle.pr_verify.specs.declared.answers.Questions.{Questions}
 use Rattle.pr_verify.specs.declared.known.Answer.{Answer}

@@ -2,13 +2,13 @@
 use Rattle.std.specs.Prelude.{◌≢◌, ℕ, ◌<◌, IsTrue, List, length, Option, Some, None}
 use Rattle.std.specs.List.{slice_get, All, Contains}
 use Rattle.pr_unit.specs.UnitStates.{UnitState, reset}
+use Rattle.pr_script.specs.declared.landing.Landing.{Landing}
+use Rattle.pr_script.specs.declared.landing.Landing.TheVariants.{Arm, NoArm}
 use Rattle.pr_roles.specs.Scenarios.{Scenario, role}
 use Rattle.pr_sets.specs.declared.view_set.ViewSet.{Ghosts as ViewSet}
 use Rattle.pr_views.specs.declared.view.ViewOf.{ViewOf}
 use Rattle.pr_views.specs.Views.{View, Shows, Within}
 use Rattle.pr_views.specs.Rooms.{view_of, AreAlike}
-use Rattle.pr_domain.specs.declared.landing.Landing.{Landing}
-use Rattle.pr_domain.specs.declared.landing.Landing.TheVariants.{Arm, NoArm}
 use Rattle.pr_interference.specs.Interference.{IsDone, declares_resets, Becomes}
 use Rattle.pr_verify.specs.declared.outline.OutlineBy.{OutlineBy}
 use Rattle.pr_verify.specs.Outlines.{Outline, view_at, IsShownAt}

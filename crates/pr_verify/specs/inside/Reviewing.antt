@@ -5,13 +5,13 @@ use Rattle.pr_script.specs.Costs.{cost_of_all}
 use Rattle.pr_script.specs.Scripts.{Stmts}
 use Rattle.pr_script.specs.Trees.{script_of}
 use Rattle.pr_script.specs.declared.script.Script.{Script}
+use Rattle.pr_script.specs.declared.landing.Landing.{Landing}
+use Rattle.pr_script.specs.declared.landing.Landing.TheVariants as landing
+use Rattle.pr_script.specs.declared.landing.Class.{Class}
 use Rattle.pr_roles.specs.Scenarios.{Scenario, scenario_of}
 use Rattle.pr_roles.specs.declared.parts.Parts.{Parts}
 use Rattle.pr_sets.specs.declared.view_set.ViewSet.{Ghosts as ViewSet}
 use Rattle.pr_views.specs.declared.view.ViewOf.{ViewOf}
-use Rattle.pr_domain.specs.declared.landing.Landing.{Landing}
-use Rattle.pr_domain.specs.declared.landing.Landing.TheVariants as landing
-use Rattle.pr_domain.specs.declared.landing.Class.{Class}
 use Rattle.pr_interference.specs.inside.Interfering.{Among}
 use Rattle.pr_verify.specs.declared.outline.OutlineBy.{OutlineBy}
 use Rattle.pr_verify.specs.declared.places.Spot.{Spot}

@@ -2,9 +2,9 @@
 use Rattle.std.specs.Prelude.{ℕ, ◌<◌, ◌≤◌, Option, Some, None}
 use Rattle.pr_script.specs.Costs.{cost_of_all}
 use Rattle.pr_script.specs.Scripts.{Stmts}
+use Rattle.pr_script.specs.declared.landing.Class.{Class}
+use Rattle.pr_script.specs.declared.landing.Class.TheVariants.{Good, Conflict, Busy, Full, Sense}
 use Rattle.pr_roles.specs.Scenarios.{Scenario, task}
-use Rattle.pr_domain.specs.declared.landing.Class.{Class}
-use Rattle.pr_domain.specs.declared.landing.Class.TheVariants.{Good, Conflict, Busy, Full, Sense}
 use Rattle.pr_verify.specs.declared.refusal.Refusal.{Refusal}
 use Rattle.pr_verify.specs.declared.table.Table.{Table}
 use Rattle.pr_verify.specs.Outlines.{OnScripted, IsCarried, HostSendsFit}

@@ -4,7 +4,7 @@ use Rattle.std.specs.List.{position, position_or_len}
 use Rattle.pr_cdb.specs.Statuses.{is_good_status, is_check_status, is_conflict_status, is_busy_status, is_full_status}
 use Rattle.pr_script.specs.declared.script.Test.TheVariants as test
 use Rattle.pr_script.specs.Takes.{is_attention, is_sense}
-use Rattle.pr_domain.specs.declared.landing.Class.TheVariants.{Sense as WithSense}
+use Rattle.pr_script.specs.declared.landing.Class.TheVariants.{Sense as WithSense}
 use Rattle.pr_domain.specs.inside.Reporting.{looks, takes, AreBlind}
 
 and_false : (b : Bool) → (b && false) ≡ false

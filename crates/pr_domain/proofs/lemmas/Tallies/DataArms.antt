@@ -6,6 +6,7 @@ use Rattle.std.proofs.lemmas.List.Quantifiers.{position-Some}
 use Rattle.pr_cdb.specs.declared.command.Command.TheVariants as command
 use Rattle.pr_script.specs.declared.script.Test.TheVariants as test
 use Rattle.pr_script.specs.Grammar.{is_read_keys, is_read_reservation, is_declared}
+use Rattle.pr_script.specs.declared.landing.Class.TheVariants as class
 use Rattle.pr_regions.specs.declared.purpose.Purpose.TheVariants.{Look}
 use Rattle.pr_regions.specs.declared.region.Ending.TheVariants as ending
 use Rattle.pr_regions.specs.Transitions.{Does, never}
@@ -14,7 +15,6 @@ use Rattle.pr_regions.specs.Regions.{Ends, Meets, IsInRegion}
 use Rattle.pr_regions.proofs.lemmas.Parts.Endings.{same_ends}
 use Rattle.pr_regions.specs.Gathering.{IsProper}
 use Rattle.pr_domain.specs.inside.Tallies.{way_of, IsRightReading, AreRightReadings}
-use Rattle.pr_domain.specs.declared.landing.Class.TheVariants as class
 use Rattle.pr_domain.specs.inside.Reporting.{looks, takes, AreBlind}
 use Rattle.pr_domain.proofs.lemmas.Reporting.MatchingTests.{first_of_class}
 use Rattle.pr_regions.proofs.lemmas.Portions.GatheredStates.{number_at}

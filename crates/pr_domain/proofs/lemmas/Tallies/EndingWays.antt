@@ -6,7 +6,7 @@ use Rattle.std.proofs.lemmas.List.Quantifiers.{position-Some}
 use Rattle.pr_cdb.specs.Ranges.{Fits as FitsCommand}
 use Rattle.pr_script.specs.declared.script.Test.TheVariants as test
 use Rattle.pr_sets.specs.declared.view_set.ViewSet.{Ghosts as ViewSet}
-use Rattle.pr_domain.specs.declared.landing.Landing.TheVariants.{Arm, NoArm}
+use Rattle.pr_script.specs.declared.landing.Landing.TheVariants.{Arm, NoArm}
 use Rattle.pr_domain.specs.declared.reporting.Sending.{Sending}
 use Rattle.pr_domain.specs.inside.Reporting.{AreCalm, AreQuiet, MayReport, LandsGood, IsLater}
 use Rattle.pr_domain.specs.inside.Sendings.{scope_of_sending, IsInRange, IsTallied}

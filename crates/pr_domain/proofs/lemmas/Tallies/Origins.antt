@@ -6,8 +6,8 @@ use Rattle.pr_cdb.specs.declared.reply.Status.TheVariants as status
 use Rattle.pr_cdb.specs.Ranges.{Fits as FitsCommand}
 use Rattle.pr_attention.proofs.lemmas.Bits.{flag_of, codes_of-without_flag, without_flag-lt}
 use Rattle.pr_unit.proofs.lemmas.Steps.WellFormedSteps.{well_formed-step, hosts-step}
-use Rattle.pr_domain.specs.declared.landing.Landing.TheVariants.{Arm, NoArm}
-use Rattle.pr_domain.specs.declared.landing.Class.TheVariants.{Sense as WithSense}
+use Rattle.pr_script.specs.declared.landing.Landing.TheVariants.{Arm, NoArm}
+use Rattle.pr_script.specs.declared.landing.Class.TheVariants.{Sense as WithSense}
 use Rattle.pr_domain.proofs.lemmas.Reporting.Ends.{steps_or_stays}
 use Rattle.pr_domain.proofs.lemmas.Reporting.OwnerStates.{after_reported, untold_pending, IsNumbered, numbered_after}
 
