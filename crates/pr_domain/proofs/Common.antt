@@ -1,5 +1,5 @@
 -- The names that most proofs of this crate cite, passed on from one place. Declares nothing.
-pub use Rattle.std.proofs.Common.{◌≡◌, ℕ, zero, suc, ◌+◌, ◌-◌, ◌*◌, ◌<◌, ◌≤◌, Bool, true, false, not, ◌&&◌, ◌||◌, ◌≢◌, ◌⊎◌, ◌↔◌, List, [], ◌∷◌, map, length, get_or, take, is_some, IfSome, IfNone, if◌then◌else◌, IsTrue, nat_lt, ◌==◌, slice_get, slice_set, bit_and, Some, None, All, Contains, Option, option_map, sym, refl, ap, ◌∙◌, subst, inl, inr, arith, lit<, rules}
+pub use Rattle.std.proofs.Common.{◌≡◌, ℕ, zero, suc, ◌+◌, ◌-◌, ◌*◌, ◌<◌, ◌≤◌, Bool, true, false, not, ◌&&◌, ◌||◌, ◌≢◌, ◌⊎◌, ◌↔◌, List, [], ◌∷◌, map, length, get_or, take, is_some, IfSome, IfNone, if◌then◌else◌, IsTrue, nat_lt, ◌==◌, slice_get, slice_set, Some, None, All, Contains, Option, option_map, sym, refl, ap, ◌∙◌, subst, inl, inr, arith, lit<, rules}
 pub use Rattle.std.specs.List.{list_any, list_all}
 pub use Rattle.std.specs.Option.{option_map_or}
 pub use Rattle.std.proofs.lemmas.Bool.{false≢true, not-true, cases_lt, and_parts, cases_order, cases_eq, or_cases, and_from, or_left, or_right}

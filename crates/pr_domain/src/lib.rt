@@ -12,7 +12,6 @@ mod tallying;
 mod tested;
 mod twins;
 
-pub use attentions::is_among;
 pub use outcome::outcomes;
 pub use pr_script::{Class, Landing};
 pub use pr_sets::{ListSet, ViewSet, WordSet};

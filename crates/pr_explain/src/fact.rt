@@ -1,9 +1,9 @@
 //! What may be so when a host sends.
 
 use pr_attention::{Attention, Pending};
-use pr_domain::is_among;
 use pr_registry::Held;
 use pr_unit::Unit;
+use pr_views::is_among;
 
 /// Of one thing what may be so when a host sends.
 #[derive(Clone, Copy, Debug, PartialEq, Eq)]

@@ -1,11 +1,13 @@
 //! What a host can know of the logical unit.
 #![tactic(auto)]
 
+mod attentions;
 mod portion;
 mod possibilities;
 mod sets;
 mod view;
 
+pub use attentions::{is_among, without};
 pub use portion::Portion;
 pub use possibilities::Possibilities;
 pub use view::{

@@ -1,7 +1,10 @@
-use Rattle.pr_domain.proofs.Common.{◌≡◌, ◌==◌, bit_and, sym, subst, code_of, codes_of}
+use Rattle.pr_views.proofs.Common.{◌≡◌, ◌==◌, sym, subst}
+use Rattle.std.proofs.Common.{bit_and}
 use Rattle.std.specs.FinSet as set
+use Rattle.pr_attention.specs.Attentions.{code_of}
+use Rattle.pr_attention.specs.Flagged.{codes_of}
 use Rattle.pr_attention.proofs.lemmas.Bits.{has_flag}
-use Rattle.pr_domain.proofs.attentions.is_among.Goals as goal
+use Rattle.pr_views.proofs.attentions.is_among.Goals as goal
 
 pub returns : goal.returns
 returns c =

@@ -1,7 +1,10 @@
-use Rattle.pr_domain.proofs.Common.{◌≡◌, ◌-◌, bit_and, sym, subst, code_of, codes_of}
+use Rattle.pr_views.proofs.Common.{◌≡◌, ◌-◌, sym, subst}
+use Rattle.std.proofs.Common.{bit_and}
 use Rattle.std.specs.FinSet as set
+use Rattle.pr_attention.specs.Attentions.{code_of}
+use Rattle.pr_attention.specs.Flagged.{codes_of}
 use Rattle.pr_attention.proofs.lemmas.Bits.{codes_of-without_flag}
-use Rattle.pr_domain.proofs.attentions.without.Goals as goal
+use Rattle.pr_views.proofs.attentions.without.Goals as goal
 
 pub returns-clause-codes : goal.returns-clause-codes
 returns-clause-codes c =
