@@ -13,6 +13,7 @@ mod how;
 mod item;
 mod laws;
 pub mod limits;
+mod nexus;
 mod parts;
 mod permitting;
 mod role;
@@ -29,6 +30,7 @@ pub use laws::{
     refusals_are_counted, refusals_are_declared, resets_are_counted, resets_are_declared,
     starts_are_found,
 };
+pub use nexus::nexus_in;
 pub use parts::{Nexus, Parts, Start, Task};
 pub use permitting::{is_always_permitted, names, permits};
 pub use pr_script::Word;

@@ -17,9 +17,8 @@ ghost use Rattle.pr_table.specs.declared.counts.TheConstants.{MOST_ROWS};
 use crate::counts::{row_count, row_count_of_all};
 use pr_cdb::{Command, encode};
 use pr_output::{Token, WriteFault, put, put_line, put_spaced};
-use pr_roles::{Scenario, Task};
+use pr_roles::{Scenario, Task, nexus_in};
 use pr_script::{Arm, Class, Script, Statement, Test};
-use pr_verify::nexus_in;
 use std::io::Write;
 
 /// Writes the table of a host's script: a row for each of its statements, with the command's bytes where that is a send, and the row

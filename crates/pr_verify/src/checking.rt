@@ -15,12 +15,11 @@ ghost use Rattle.pr_verify.specs.Rooms.{IsFittingFor, IsMadeFor, IsRefusalFor, I
 ghost use Rattle.pr_verify.specs.inside.Reviewing.{CanCheck, FitsAnyBudget, IsOver, IsRefusedBy, IsSoundBy};
 
 use crate::answers::Questions;
-use crate::nexus::nexus_in;
 use crate::outline::OutlineOf;
 use crate::places::{Spot, spots};
 use crate::refusal::Refusal;
 use crate::reviewing::{first_misfit, first_unsound};
-use pr_roles::{Scenario, Task};
+use pr_roles::{Scenario, Task, nexus_in};
 use pr_script::{Script, cost};
 use pr_sets::ViewSet;
 use pr_views::ViewOf;

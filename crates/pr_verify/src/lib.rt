@@ -28,7 +28,6 @@ pub use each::verify_each;
 pub use inferring::{infer, infer_of};
 pub use judging::{Judged, judge};
 pub use laws::{outlines_make_safe, reasons_are_final, runs_go_on, safe_sends_are_fine};
-pub use nexus::nexus_in;
 pub use outline::{Outline, OutlineBy, OutlineOf};
 pub use refusal::Refusal;
 pub use table::{Row, Table};

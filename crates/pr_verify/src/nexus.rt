@@ -1,22 +1,10 @@
-//! The nexuses of a scenario.
+//! What the nexuses of a scenario may meet.
 
-ghost use Rattle.std.specs.Prelude.{◌≡◌, ◌<◌, length, Some};
+ghost use Rattle.std.specs.Prelude.{◌≡◌, ◌<◌, length};
 ghost use Rattle.pr_roles.specs.DeclaredRefusals.{refusals_of};
-ghost use Rattle.pr_roles.specs.Fitting.{Fits};
-ghost use Rattle.pr_roles.specs.Scenarios.{nexus, nexus_of, scenario_of};
-ghost use Rattle.pr_roles.specs.Starts.{CanStart};
+ghost use Rattle.pr_roles.specs.Scenarios.{scenario_of};
 
-use pr_roles::{Nexus, Refusals, Scenario};
-
-/// The nexus with this number, as it is kept.
-pub fn nexus_in(scenario: &Scenario, host: u8) -> &Nexus
-    requires { host < length (scenario_of scenario.now).nexuses }
-    ensures nexus { nexus (scenario_of scenario.now) host ≡ Some (nexus_of result.now) }
-    ensures fits { Fits (scenario_of scenario.now) }
-    ensures starts { CanStart (scenario_of scenario.now) }
-{
-    &scenario.parts().nexuses[usize::from(host)]
-}
+use pr_roles::{Refusals, Scenario, nexus_in};
 
 /// Which of BUSY and TASK SET FULL it may meet.
 pub(crate) fn refusals_in(scenario: &Scenario, host: u8) -> Refusals

@@ -8,9 +8,8 @@ ghost use Rattle.pr_verify.specs.inside.Lacking.{CanCompare, IsClosedToResetsOfA
 ghost use Rattle.pr_verify.specs.inside.Reviewing.{IsMadeAs};
 
 use crate::answers::Questions;
-use crate::nexus::nexus_in;
 use pr_interference::{interfere, reset};
-use pr_roles::Scenario;
+use pr_roles::{Scenario, nexus_in};
 use pr_sets::ViewSet;
 use pr_views::ViewOf;
 use std::alloc::{AllocError, Global};

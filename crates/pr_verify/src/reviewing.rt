@@ -13,12 +13,12 @@ ghost use Rattle.pr_verify.specs.inside.Reviewing.{IsFirstUnarmed, earlier, earl
 
 use crate::answers::Questions;
 use crate::lacking::{first_lacking, lacking_at_start, least};
-use crate::nexus::nexus_in;
 use crate::others::lacking_by_others;
 use crate::outline::OutlineOf;
 use crate::places::{Spot, first_lines};
 use crate::refusal::Refusal;
 use pr_permission::permitted;
+use pr_roles::nexus_in;
 use pr_script::{Class, Landing, Script};
 use pr_sets::ViewSet;
 use pr_views::ViewOf;

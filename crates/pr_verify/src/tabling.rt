@@ -15,12 +15,11 @@ ghost use Rattle.pr_verify.specs.inside.Tabling.{IsCosted, IsInRange, IsJudgemen
 use crate::answers::Questions;
 use crate::checking::check_cost;
 use crate::inferring::{infer, script_in};
-use crate::nexus::nexus_in;
 use crate::places::{Spot, spots};
 use crate::refusal::Refusal;
 use crate::reviewing::{first_unarmed, number_of, review};
 use crate::table::{Row, Table};
-use pr_roles::{Scenario, Task};
+use pr_roles::{Scenario, Task, nexus_in};
 use pr_script::{Class, Landing};
 use pr_sets::ViewSet;
 use pr_views::ViewOf;

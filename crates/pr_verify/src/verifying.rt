@@ -10,9 +10,8 @@ ghost use Rattle.pr_verify.specs.inside.Checks.{IsReasonOf};
 use crate::checking::{check_cost, check_fit};
 use crate::inferring::infer;
 use crate::laws::outlines_make_safe;
-use crate::nexus::nexus_in;
 use crate::refusal::Refusal;
-use pr_roles::{Scenario, Task};
+use pr_roles::{Scenario, Task, nexus_in};
 use std::alloc::Global;
 use std::marker::Model;
 

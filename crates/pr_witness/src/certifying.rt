@@ -17,9 +17,8 @@ use crate::breach::{Breach, CertifiedRun};
 use pr_audit::{Auditor, End, commands_by, counts_of};
 use pr_cdb::Status;
 use pr_explore::Broken;
-use pr_roles::{Item, Scenario, Task, permits};
+use pr_roles::{Item, Scenario, Task, nexus_in, permits};
 use pr_unit::Unit;
-use pr_verify::nexus_in;
 use std::alloc::{AllocError, Global};
 
 /// The most items of a history that is certified: as many as a trace may have.

@@ -8,9 +8,8 @@ ghost use Rattle.pr_words.specs.Tellings.{IsTold};
 use crate::adopting::adopt;
 use pr_audit::{AuditError, Auditor, End, audit, counts_of, refused};
 use pr_cdb::{Command, Reply, Status, decode, encode};
-use pr_roles::{Entry, Item, Scenario, first_start, permits};
+use pr_roles::{Entry, Item, Scenario, first_start, nexus_in, permits};
 use pr_unit::Unit;
-use pr_verify::nexus_in;
 use std::alloc::{AllocError, Global};
 
 /// The most items of a history whose commands are counted: as many as a trace may have.

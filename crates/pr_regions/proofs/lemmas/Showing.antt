@@ -1,5 +1,4 @@
 pub mod AlikeStates
 pub mod AlikeViews
 pub mod Numbers
-pub mod ScenarioParts
 pub mod ShownStates

@@ -19,9 +19,9 @@ use Rattle.pr_roles.specs.declared.parts.Parts.{Parts}
 use Rattle.pr_roles.specs.Scenarios.{Scenario, role, scenario_of}
 use Rattle.pr_roles.specs.Starts.{IsAllowedStart}
 use Rattle.pr_roles.specs.Worlds.{World, Event, Host, Guest, UnitReset, Happens, HostSends, control, entry_of, standing_of, world_from}
+use Rattle.pr_roles.proofs.lemmas.Scenarios.Parts.{count_of_parts}
 use Rattle.pr_audit.specs.declared.auditor.Auditor.{Auditor}
 use Rattle.pr_audit.specs.Auditors.{Adds, ActFor, IsTried, is_free, world_at, is_planned}
-use Rattle.pr_regions.proofs.lemmas.Showing.ScenarioParts.{count_of_parts}
 use Rattle.pr_audit.proofs.lemmas.Auditors.Additions.{guests_free, same_entry, same_item}
 use Rattle.pr_audit.proofs.lemmas.Auditing.Histories.{reaches_more}
 use Rattle.pr_witness.specs.declared.breach.Breach.{Breach}

@@ -12,12 +12,12 @@ use Rattle.pr_roles.specs.Scenarios.{Nexus, nexus_of}
 use Rattle.pr_roles.specs.inside.StoredStarts.{start_of}
 use Rattle.pr_roles.proofs.lemmas.Starts.AllowedStarts.{counted, each_nexus}
 use Rattle.pr_roles.proofs.lemmas.FirstStarts.Existence.{all_pass, slice_get_contains}
+use Rattle.pr_roles.proofs.lemmas.Scenarios.Parts.{count_of_parts}
 use Rattle.pr_views.specs.Possibilities.{count_of_attentions}
 use Rattle.pr_views.proofs.lemmas.Possibilities.Numbers.{same_held, same_registration}
 use Rattle.pr_regions.specs.Purposes.{number_in}
 use Rattle.pr_regions.proofs.lemmas.Purposes.Conduct.{number_named, declared_number}
 use Rattle.pr_domain.specs.inside.Beginning.{AreAmong, registration_in, has_alternative, scope_in}
-use Rattle.pr_regions.proofs.lemmas.Showing.ScenarioParts.{count_of_parts}
 use Rattle.pr_regions.proofs.lemmas.Showing.AlikeViews.{number_below}
 
 same_number : (a b : ℕ) → (a == b) ≡ true → a ≡ b

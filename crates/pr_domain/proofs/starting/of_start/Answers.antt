@@ -1,10 +1,10 @@
 use Rattle.pr_domain.proofs.Common.{◌≡◌, ◌<◌, sym, ap, ◌∙◌, subst, arith, rules, AreDeclared, scenario_of, view_in, scope_of, view_of, AreInRange}
 use Rattle.pr_roles.specs.declared.parts.Parts.{Parts}
 use Rattle.pr_roles.specs.Fitting.{Fits}
+use Rattle.pr_roles.proofs.lemmas.Scenarios.Parts.{keys_are, keys_of_parts}
 use Rattle.pr_domain.specs.Starting.{IsOfStart}
 use Rattle.pr_domain.specs.inside.Beginning.{scope_in}
 use Rattle.pr_domain.proofs.lemmas.Starting.AllowedStarts.{start_same}
-use Rattle.pr_regions.proofs.lemmas.Showing.ScenarioParts.{keys_are, keys_of_parts}
 use Rattle.pr_regions.proofs.lemmas.Showing.AlikeViews.{same_views, if_ok}
 use Rattle.pr_domain.proofs.lemmas.Starting.WrittenNumbers.{AreCounted, are_counted}
 use Rattle.pr_domain.proofs.starting.of_start.Given as given

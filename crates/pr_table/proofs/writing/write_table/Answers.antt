@@ -3,7 +3,7 @@ use Rattle.std.proofs.Common.{ℕ, List, ◌∙◌, subst}
 use Rattle.pr_script.specs.Trees.{script_of}
 use Rattle.pr_roles.specs.Scenarios.{nexus_of, scenario_of}
 use Rattle.pr_output.specs.Written.{Puts}
-use Rattle.pr_verify.proofs.lemmas.Rooms.Nexuses.{scripted_fits, scripted_task}
+use Rattle.pr_roles.proofs.lemmas.Scenarios.Nexuses.{scripted_fits, scripted_task}
 use Rattle.pr_table.specs.Rows.{table_rows}
 use Rattle.pr_table.specs.TableText.{table_text}
 use Rattle.pr_table.proofs.lemmas.Rows.Counts.{few_rows}

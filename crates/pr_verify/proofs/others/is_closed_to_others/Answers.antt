@@ -1,8 +1,8 @@
 use Rattle.pr_verify.proofs.Common.{◌≡◌, ◌<◌, true, length, sym, ◌∙◌, subst, arith, rules, false≢true, scenario_of, view_of, fits}
 use Rattle.pr_roles.specs.Fitting.{is_role}
+use Rattle.pr_roles.proofs.lemmas.Scenarios.Nexuses.{role_read, role_fits}
 use Rattle.pr_verify.proofs.lemmas.Known.Questions.{own_there}
 use Rattle.pr_verify.proofs.lemmas.Reviewing.Starts.{any_own, scope_alike}
-use Rattle.pr_verify.proofs.lemmas.Rooms.Nexuses.{role_read, role_fits}
 use Rattle.pr_verify.proofs.lemmas.Least.Disturbances.{closed_to_none, closed_own, closed_one, open_by}
 use Rattle.pr_verify.proofs.others.is_closed_to_others.Goals.{then-other-own+in_ok-left+else-not-within, else-other-own}
 use Rattle.pr_verify.proofs.others.is_closed_to_others.Goals as goal

@@ -1,6 +1,7 @@
 use Rattle.pr_verify.proofs.Common.{script_of, task, scenario_of}
+use Rattle.pr_roles.proofs.lemmas.Scenarios.Nexuses.{scripted_task, scripted_fits}
 use Rattle.pr_verify.specs.inside.Tabling.{IsCosted}
-use Rattle.pr_verify.proofs.lemmas.Rooms.Nexuses.{scripted_there, scripted_task, scripted_fits, planned_not}
+use Rattle.pr_verify.proofs.lemmas.Rooms.Nexuses.{scripted_there, planned_not}
 use Rattle.pr_verify.proofs.lemmas.Rooms.Scripts.{on_script}
 use Rattle.pr_verify.proofs.lemmas.Tabling.Judgements.{costed}
 use Rattle.pr_verify.proofs.tabling.over_budget.Goals as goal

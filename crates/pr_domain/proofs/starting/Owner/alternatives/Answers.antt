@@ -1,6 +1,6 @@
 use Rattle.pr_domain.proofs.Common.{◌≡◌, ◌<◌, ◌≤◌, true, length, get_or, Some, sym, ap, ◌∙◌, subst, arith, list_all, slice_get-get_or, MOST_NEXUSES, is_reservation, Possibilities, may_have, has_reservation}
+use Rattle.pr_roles.proofs.lemmas.Scenarios.Parts.{keys_of_parts}
 use Rattle.pr_views.proofs.lemmas.Views.Values.{words_fit}
-use Rattle.pr_regions.proofs.lemmas.Showing.ScenarioParts.{keys_of_parts}
 use Rattle.pr_domain.proofs.lemmas.Starting.WrittenNumbers.{AreWritten, few_nexuses, reservations_at, are_alternatives, written_in_range, written_past}
 use Rattle.pr_domain.proofs.starting.Owner.alternatives.Goals as goal
 

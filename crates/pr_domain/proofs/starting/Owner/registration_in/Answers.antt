@@ -1,5 +1,5 @@
 use Rattle.pr_domain.proofs.Common.{◌≤◌, length, sym, subst, MOST_KEYS}
-use Rattle.pr_regions.proofs.lemmas.Showing.ScenarioParts.{few_of_parts}
+use Rattle.pr_roles.proofs.lemmas.Scenarios.Parts.{few_of_parts}
 use Rattle.pr_domain.proofs.starting.Owner.registration_in.Goals as goal
 
 pub number_in-requires : goal.number_in-requires

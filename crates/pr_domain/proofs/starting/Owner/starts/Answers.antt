@@ -1,8 +1,8 @@
 use Rattle.pr_domain.proofs.Common.{sym, refl, scenario_of, view_in}
+use Rattle.pr_roles.proofs.lemmas.Scenarios.Parts.{keys_are}
 use Rattle.pr_domain.specs.inside.Owners.{scope_of_owner}
 use Rattle.pr_regions.specs.Keeping.{IsKept}
 use Rattle.pr_domain.proofs.lemmas.Starting.AllowedStarts.{kept_of_start, kept_in_range}
-use Rattle.pr_regions.proofs.lemmas.Showing.ScenarioParts.{keys_are}
 use Rattle.pr_domain.proofs.starting.Owner.starts.Goals as goal
 
 is_kept : (c : goal.After-kept) → IsKept (view_in (scope_of_owner c.args.self.now) c.alternatives.result) (view_in (scope_of_owner c.args.self.now) c.kept.result)

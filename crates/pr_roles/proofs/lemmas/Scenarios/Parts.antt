@@ -1,10 +1,11 @@
 -- The keys and the nexuses of a scenario's parts.
-use Rattle.pr_regions.proofs.Common.{◌≡◌, ◌≤◌, length, refl, MOST_KEYS}
+use Rattle.pr_roles.proofs.Common.{◌≡◌, ◌≤◌, length, nat_le, ◌==◌, refl, and_parts, are_distinct, nexus_of}
+use Rattle.std.proofs.lemmas.Bool.{leb-true}
 use Rattle.std.proofs.lemmas.List.{length-map}
+use Rattle.pr_roles.specs.declared.limits.TheConstants.{MOST_KEYS}
 use Rattle.pr_roles.specs.declared.parts.Parts.{Parts}
-use Rattle.pr_roles.specs.Scenarios.{nexus_of, scenario_of}
+use Rattle.pr_roles.specs.Scenarios.{scenario_of}
 use Rattle.pr_roles.specs.Fitting.{Fits, AreDeclared}
-use Rattle.pr_regions.proofs.lemmas.Portions.GatheredStates.{few_keys}
 
 pub keys_are : (p : Parts) → (scenario_of p).keys ≡ p.keys.items
 unfolding scenario_of
@@ -15,7 +16,9 @@ unfolding scenario_of
 keys_of_parts p fits = fits.keys
 
 pub few_of_parts : (p : Parts) → Fits (scenario_of p) → length p.keys.items ≤ MOST_KEYS
-few_of_parts p fits = few_keys p.keys.items (keys_of_parts p fits)
+few_of_parts p fits =
+    let keys = p.keys.items in
+    leb-true (length keys) MOST_KEYS (and_parts (nat_le (length keys) MOST_KEYS) (are_distinct (λ j k. j == k) keys) (keys_of_parts p fits).once).0
 
 pub count_of_parts : (p : Parts) → length (scenario_of p).nexuses ≡ length p.nexuses.items
 unfolding scenario_of

@@ -1,10 +1,9 @@
-use Rattle.pr_verify.proofs.Common.{◌≡◌, ℕ, ◌<◌, length, slice_index_or, Some, sym, ap, ◌∙◌, subst, arith}
+use Rattle.pr_roles.proofs.Common.{◌≡◌, ℕ, ◌<◌, length, slice_index_or, Some, sym, ap, ◌∙◌, subst, arith, nexus_of}
 use Rattle.pr_roles.specs.declared.parts.Nexus.{Nexus}
 use Rattle.pr_roles.specs.declared.parts.Parts.{Parts}
-use Rattle.pr_roles.specs.Scenarios.{nexus_of}
-use Rattle.pr_interference.proofs.lemmas.Interference.Nexuses.{nexus_at}
-use Rattle.pr_regions.proofs.lemmas.Showing.ScenarioParts.{count_of_parts}
-use Rattle.pr_verify.proofs.nexus.nexus_in.Goals as goal
+use Rattle.pr_roles.proofs.lemmas.Scenarios.Nexuses.{nexus_at}
+use Rattle.pr_roles.proofs.lemmas.Scenarios.Parts.{count_of_parts}
+use Rattle.pr_roles.proofs.nexus.nexus_in.Goals as goal
 
 pub index-requires : goal.index-requires
 index-requires c =
