@@ -16,6 +16,8 @@ pub use Rattle.pr_registry.specs.declared.held.Held.{Held}
 pub use Rattle.pr_registry.specs.declared.held.Held.TheVariants.{One}
 pub use Rattle.pr_unit.specs.Laws.{request_looks}
 pub use Rattle.pr_unit.specs.UnitStates.{UnitState, effect}
+pub use Rattle.pr_unit.proofs.lemmas.UnitStates.AlikeStates.{IsLike}
+pub use Rattle.pr_unit.proofs.lemmas.Attentions.ToldAttentions.{is_pending_after, contains-told}
 pub use Rattle.pr_script.specs.Grammar.{is_declared}
 pub use Rattle.pr_roles.specs.Fitting.{is_action, AreDeclared}
 pub use Rattle.pr_roles.specs.Permits.{names, holds}
@@ -24,6 +26,7 @@ unfoldable pub use Rattle.pr_roles.specs.Scenarios.{scenario_of}
 pub use Rattle.pr_roles.specs.declared.parts.Parts.{Parts}
 pub use Rattle.pr_roles.specs.declared.role.Action.{Action}
 pub use Rattle.pr_roles.specs.declared.role.Clause.{Clause}
+pub use Rattle.pr_roles.specs.inside.FirstElements.{Among}
 pub use Rattle.pr_views.specs.Portions.{has_at, view_in}
 pub use Rattle.pr_views.specs.Possibilities.{Scope, number_of, count_of_reservations, Item, Registration, Reservation, Attentions, IsSo}
 pub use Rattle.pr_views.specs.Rooms.{scope_of, view_of, AreInRange}
@@ -43,15 +46,14 @@ pub use Rattle.pr_regions.specs.declared.region.Transition.{Transition}
 pub use Rattle.pr_regions.specs.inside.Adding.{Allows, Adds}
 pub use Rattle.pr_regions.proofs.lemmas.Keeping.Additions.{adds_nothing, adds_both, IsJoined}
 pub use Rattle.pr_regions.proofs.lemmas.Portions.GatheredStates.{same_reservation, few_keys}
-pub use Rattle.pr_regions.proofs.lemmas.Regions.ToldAttentions.{is_pending_after, contains-told}
-pub use Rattle.pr_regions.proofs.lemmas.Showing.AlikeStates.{IsLike, so_like}
+pub use Rattle.pr_regions.proofs.lemmas.Showing.AlikeStates.{so_like}
 pub use Rattle.pr_regions.proofs.lemmas.Showing.AlikeViews.{IsSame, shows_within, if_ok, same_views}
 pub use Rattle.pr_interference.specs.Interference.{IsDone, IsLeft, IsInterference}
 pub use Rattle.pr_interference.specs.declared.onlooker.Onlooker.{Onlooker}
 pub use Rattle.pr_interference.specs.declared.reach.Reach.{Reach}
 pub use Rattle.pr_interference.specs.inside.Clauses.{purpose_for, IsClause, StandingLeads, PlaceLeads, FirstLeads}
 pub use Rattle.pr_interference.specs.inside.Closing.{IsRound, IsWidened, scope_for, view_for}
-pub use Rattle.pr_interference.specs.inside.Interfering.{IsWatched, IsOnlooking, Among, IsLedBy, IsLeftBy, ClauseLeaves}
+pub use Rattle.pr_interference.specs.inside.Interfering.{IsWatched, IsOnlooking, IsLedBy, IsLeftBy, ClauseLeaves}
 pub use Rattle.pr_interference.specs.inside.Marks.{first, AreMarked}
 pub use Rattle.pr_roles.specs.declared.limits.TheConstants.{MOST_KEYS, MOST_CLAUSES}
 pub use Rattle.pr_views.specs.declared.view.TheConstants.{ATTENTION_SETS, MOST_REGISTRATIONS}

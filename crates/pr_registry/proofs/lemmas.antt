@@ -1,5 +1,6 @@
 pub mod Bits
 pub mod KeyValues
+pub mod Kinds
 pub mod Sets
 pub mod States
 pub mod Tables

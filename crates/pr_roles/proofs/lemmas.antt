@@ -1,6 +1,9 @@
+pub mod FirstElements
 pub mod FirstStarts
 pub mod Fitting
+pub mod Invariants
 pub mod Laws
+pub mod Permits
 pub mod Safety
 pub mod Scenarios
 pub mod Schedules

@@ -1,1 +1,3 @@
+pub mod FirstElements
+pub mod Invariants
 pub mod StoredStarts

@@ -37,6 +37,7 @@ pub use Rattle.pr_roles.specs.Starts.{IsAllowedStart}
 pub use Rattle.pr_roles.specs.Worlds.{World, control, Host, world_from}
 pub use Rattle.pr_roles.specs.declared.how.How.{How}
 pub use Rattle.pr_roles.specs.declared.how.Refusals.{Refusals}
+pub use Rattle.pr_roles.specs.inside.FirstElements.{Among}
 pub use Rattle.pr_views.specs.Possibilities.{Scope, IsScope, Item, Registration, Reservation, Attentions, IsSo}
 pub use Rattle.pr_views.specs.Rooms.{scope_of, view_of, AreAlike}
 pub use Rattle.pr_views.specs.Views.{View, IsPossible, Shows, Fits, Within}
@@ -50,7 +51,6 @@ pub use Rattle.pr_domain.proofs.lemmas.Outcomes.Coverage.{contains_from_get}
 pub use Rattle.pr_domain.proofs.lemmas.Starting.WrittenNumbers.{are_counted}
 pub use Rattle.pr_permission.specs.Permission.{IsPermittedIn, IsRefusedIn}
 pub use Rattle.pr_interference.specs.Interference.{IsDone, Becomes, by_another, by_reset, IsClosed, IsClosure}
-pub use Rattle.pr_interference.specs.inside.Interfering.{Among}
 pub use Rattle.pr_verify.specs.LeastOutlines.{IsWithinIn, IsNoMore, IsLeastSound}
 pub use Rattle.pr_verify.specs.Outlines.{Outline, view_at, ShowsIn, IsShownAt, scope_in, IsOfScenario, StartsAt, ComesTo, IsLeftAt, IsAsked, at_start, by_itself, by_others, IsListed, IsSound, KeepsToRole, IsFitting, HasOutline, OnScripted, HaveOutlines, SendsFit}
 pub use Rattle.pr_verify.specs.Places.{out_of, head_of, head_of_all, first_of, round, Place, tests_of, next_of, place, places_in, places, places_of_arms, places_of, first_lines, follows}

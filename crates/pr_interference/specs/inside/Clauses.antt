@@ -12,6 +12,7 @@ use Rattle.pr_roles.specs.declared.role.Clause.{Clause}
 use Rattle.pr_roles.specs.Fitting.{is_action}
 use Rattle.pr_sets.specs.declared.bit_set.BitSet.{BitSet}
 use Rattle.pr_sets.specs.BitSets.{has}
+use Rattle.pr_roles.specs.inside.FirstElements.{Among}
 use Rattle.pr_views.specs.Possibilities.{Scope, Registration, Reservation, IsSo, count_of_reservations}
 use Rattle.pr_views.specs.declared.possibilities.Possibilities.{Possibilities}
 use Rattle.pr_views.specs.Portions.{view_in}
@@ -23,7 +24,7 @@ use Rattle.pr_regions.specs.declared.purpose.Standing.TheVariants.{Unregistered,
 use Rattle.pr_regions.specs.Conditions.{holds_as}
 use Rattle.pr_regions.specs.Purposes.{number_in, purpose_of_preempt, purpose_of}
 use Rattle.pr_regions.specs.Regions.{standing_of}
-use Rattle.pr_interference.specs.inside.Interfering.{IsFree, IsOnlooking, IsWatched, Among, ClauseLeaves}
+use Rattle.pr_interference.specs.inside.Interfering.{IsFree, IsOnlooking, IsWatched, ClauseLeaves}
 use Rattle.pr_interference.specs.declared.onlooker.Onlooker.{Onlooker}
 use Rattle.pr_regions.specs.declared.place.Place.{Place}
 use Rattle.pr_regions.specs.inside.Adding.{Adds}

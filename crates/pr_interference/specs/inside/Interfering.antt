@@ -1,5 +1,5 @@
 -- What the steps of another add to possibilities.
-use Rattle.std.specs.Prelude.{◌≡◌, ◌≢◌, ℕ, ◌<◌, true, false, None, List, length, slice_index_or}
+use Rattle.std.specs.Prelude.{◌≡◌, ◌≢◌, ℕ, true, false, None, List, length}
 use Rattle.std.specs.List.{All}
 use Rattle.pr_cdb.specs.declared.command.Command.{Command}
 use Rattle.pr_cdb.specs.declared.wire.Request.TheVariants.{Plain}
@@ -10,6 +10,7 @@ use Rattle.pr_unit.specs.Faults.{command_fault}
 use Rattle.pr_unit.specs.Laws.{request_looks}
 use Rattle.pr_roles.specs.declared.role.Clause.{Clause}
 use Rattle.pr_roles.specs.Permits.{clause_permits}
+use Rattle.pr_roles.specs.inside.FirstElements.{Among}
 use Rattle.pr_sets.specs.declared.bit_set.BitSet.{BitSet}
 use Rattle.pr_views.specs.declared.possibilities.Possibilities.{Possibilities}
 use Rattle.pr_views.specs.Possibilities.{Scope, Item, IsSo}
@@ -49,14 +50,6 @@ pub record IsChanged (s : Scope) (view : Possibilities) (place : Place) (senders
 pub record IsAfter (s : Scope) (view : Possibilities) (place : Place) (senders : BitSet) (region : Region) (change : Transition) (after : Possibilities) : Type 0 where
   pub all : (u w : UnitState) → IsAt (view_in s view) place senders region u → Changes s place.sender change u w → Allows s after w
   pub only : (i : Item) → IsPossible (view_in s after) i → IsChanged s view place senders region change i
-
--- it holds of one of the first elements
-pub record Among {X : Type 0} (n : ℕ) (xs : List X) (holds : X → Type 0) : Type 0 where
-  pub element : X
-  pub place : ℕ
-  pub below : place < n
-  pub there : slice_index_or xs place element ≡ element
-  pub is : holds element
 
 -- ---- branches
 

@@ -1,1 +1,3 @@
+pub mod AlikeStates
 pub mod Effects
+pub mod Releases

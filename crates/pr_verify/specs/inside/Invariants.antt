@@ -2,7 +2,7 @@
 -- state. It is an invariant of the host where it is true at each start, where it stays true whatever happens, and where
 -- what safety asks of the host follows from it. How it is written down (a view for each send, several, one for each count
 -- of a repeat, a list of states) makes no difference to what it is worth.
-use Rattle.std.specs.Prelude.{◌≡◌, ◌≢◌, ◌⊎◌, ℕ, ◌+◌, ◌<◌, ◌≤◌, true, false, IsTrue, List, [], ◌∷◌, ◌++◌, length, Some}
+use Rattle.std.specs.Prelude.{◌≡◌, ◌≢◌, ◌⊎◌, ℕ, ◌+◌, ◌<◌, ◌≤◌, true, IsTrue, List, [], ◌∷◌, ◌++◌, length, Some}
 use Rattle.pr_cdb.specs.declared.command.Command.{Command}
 use Rattle.pr_cdb.specs.declared.reply.Reply.{Reply}
 use Rattle.pr_cdb.specs.declared.wire.Request.TheVariants.{Plain}
@@ -20,12 +20,10 @@ use Rattle.pr_roles.specs.Answers.{Answers, may_come}
 use Rattle.pr_roles.specs.Permits.{command_permitted}
 use Rattle.pr_roles.specs.Scenarios.{Scenario, role, task}
 use Rattle.pr_roles.specs.Starts.{IsAllowedStart}
-use Rattle.pr_roles.specs.Worlds.{World, Event, Happens, world_from, control, is_trapped, entry_of, commands_by, may_reset}
-use Rattle.pr_roles.specs.Safety.{IsSafe, KeepsRole, KeepsBudgetBy}
+use Rattle.pr_roles.specs.Worlds.{entry_of, commands_by, may_reset}
+use Rattle.pr_roles.specs.Safety.{IsSafe}
 use Rattle.pr_interference.specs.Interference.{IsDone}
 use Rattle.pr_verify.specs.Outlines.{OnScripted}
-
--- ---- of one host, against whatever the roles of the others allow
 
 -- where this is said, the host's script is ready with a command, and is answered so
 pub record IsTurn (s : Scenario) (h : ℕ) (Holds : Configuration → List Item → UnitState → Type 0) (l : Configuration) (history : List Item) (u : UnitState) (c : Command) (r : Reply) (v : UnitState) : Type 0 where
@@ -61,15 +59,3 @@ HaveInvariants s Holds = (h : ℕ) → h < length s.nexuses → OnScripted (task
 -- Invariants, one for each scripted host, make a scenario safe.
 abbrev pub InvariantsMakeSafe : Type 1
 InvariantsMakeSafe = (s : Scenario) (Holds : ℕ → Configuration → List Item → UnitState → Type 0) → HaveInvariants s Holds → IsSafe s
-
--- ---- of all hosts together
-
--- What is said of worlds is true at each start and after each event; where it is true, no script is trapped or past its budget,
--- and none leaves its role by what it sends next.
-pub record IsWorldInvariant (s : Scenario) (Holds : World → Type 0) : Type 0 where
-  pub start : (u : UnitState) → IsAllowedStart s u → Holds (world_from s u)
-  pub event : (w : World) (e : Event) (v : World) → Holds w → Happens s w e v → Holds v
-  pub fine : (w : World) (h : ℕ) → Holds w → (is_trapped (control w h) ≡ false) × KeepsBudgetBy (task s h) w h × KeepsRole s w h
-
-abbrev pub WorldInvariantsMakeSafe : Type 1
-WorldInvariantsMakeSafe = (s : Scenario) (Holds : World → Type 0) → IsWorldInvariant s Holds → IsSafe s

@@ -1,6 +1,6 @@
 -- The first line at which something is lacking, by what is there and what is lacking at each.
 use Rattle.std.specs.Prelude.{ℕ, ◌<◌, min, List, slice_index_or, Option, Some, None}
-use Rattle.pr_interference.specs.inside.Interfering.{Among}
+use Rattle.pr_roles.specs.inside.FirstElements.{Among}
 
 -- something is lacking at this line, and nothing at those before it
 pub record IsFirst (Has Lacks : ℕ → Type 0) (line : ℕ) : Type 0 where

@@ -11,8 +11,8 @@ use Rattle.pr_script.specs.declared.landing.Class.{Class}
 use Rattle.pr_roles.specs.Scenarios.{Scenario, scenario_of}
 use Rattle.pr_roles.specs.declared.parts.Parts.{Parts}
 use Rattle.pr_sets.specs.declared.view_set.ViewSet.{Ghosts as ViewSet}
+use Rattle.pr_roles.specs.inside.FirstElements.{Among}
 use Rattle.pr_views.specs.declared.view.ViewOf.{ViewOf}
-use Rattle.pr_interference.specs.inside.Interfering.{Among}
 use Rattle.pr_verify.specs.declared.outline.OutlineBy.{OutlineBy}
 use Rattle.pr_verify.specs.declared.places.Spot.{Spot}
 use Rattle.pr_verify.specs.declared.refusal.Refusal.{Refusal}

@@ -15,9 +15,9 @@ use Rattle.pr_registry.specs.Effects.{with_registration, without_registration, a
 use Rattle.pr_registry.proofs.lemmas.Sets.{contains-nobody, contains-difference, get-insert, get-empty, get-without}
 use Rattle.pr_registry.proofs.lemmas.Tables.{eq_itself}
 use Rattle.pr_unit.proofs.lemmas.Attentions.Pairs.{contains-remove-pair}
+use Rattle.pr_unit.proofs.lemmas.Attentions.ToldAttentions.{is_pending_after, contains-told}
 use Rattle.pr_script.specs.Grammar.{is_declared}
 use Rattle.pr_regions.proofs.lemmas.Regions.Effects.{not_itself, contains-others_itself}
-use Rattle.pr_regions.proofs.lemmas.Regions.ToldAttentions.{is_pending_after, contains-told}
 use Rattle.pr_domain.specs.inside.Reporting.{IsAfter}
 use Rattle.pr_domain.proofs.lemmas.Reporting.Ends.{which, any_pending}
 

@@ -3,8 +3,9 @@ use Rattle.pr_domain.proofs.Common.{◌≡◌, ℕ, ◌<◌, true, ◌&&◌, ◌
 use Rattle.std.specs.FinSet as set
 use Rattle.pr_unit.specs.Attentions.{of_host}
 use Rattle.pr_unit.proofs.lemmas.Attentions.Pairs.{contains-of_host}
+use Rattle.pr_unit.proofs.lemmas.UnitStates.AlikeStates.{IsLike}
 use Rattle.pr_domain.specs.Starting.{StartsSo}
-use Rattle.pr_regions.proofs.lemmas.Showing.AlikeStates.{IsLike, so_like}
+use Rattle.pr_regions.proofs.lemmas.Showing.AlikeStates.{so_like}
 
 -- the same state, with nothing pending for any but the owner
 abbrev pub alone : UnitState → ℕ → ℕ → UnitState

@@ -8,8 +8,6 @@ use Rattle.pr_attention.proofs.lemmas.Bits.{flag_of, codes_of-without_flag, with
 use Rattle.pr_unit.proofs.lemmas.Steps.WellFormedSteps.{well_formed-step, hosts-step}
 use Rattle.pr_script.specs.declared.landing.Landing.TheVariants.{Arm, NoArm}
 use Rattle.pr_script.specs.declared.landing.Class.TheVariants.{Sense as WithSense}
-use Rattle.pr_script.specs.declared.landing.Landing.TheVariants.{Arm, NoArm}
-use Rattle.pr_script.specs.declared.landing.Class.TheVariants.{Sense as WithSense}
 use Rattle.pr_domain.proofs.lemmas.Reporting.Ends.{steps_or_stays}
 use Rattle.pr_domain.proofs.lemmas.Reporting.OwnerStates.{after_reported, untold_pending, IsNumbered, numbered_after}
 

@@ -1,39 +1,21 @@
 -- What others do that ends GOOD: it looks, or a clause permits it and it has its effect.
-use Rattle.pr_interference.proofs.Common.{◌≡◌, ℕ, zero, suc, ◌<◌, Bool, true, false, ◌||◌, ◌≢◌, ◌⊎◌, List, [], ◌∷◌, length, slice_index_or, refl, ap, ◌∙◌, subst, inl, inr, arith, false≢true, Command, Plain, request_looks, UnitState, effect, Clause, Item, IsSo, View, Shows, IsLike, so_like, IsDone, IsLeft, Among, ClauseLeaves}
+use Rattle.pr_interference.proofs.Common.{◌≡◌, ℕ, true, ◌||◌, ◌≢◌, ◌⊎◌, List, length, refl, subst, inl, inr, false≢true, Plain, request_looks, UnitState, effect, Clause, Item, IsSo, View, Shows, IsLike, so_like, IsDone, IsLeft, Among, ClauseLeaves}
 use Rattle.std.proofs.Common.{IsTrue, Ok}
 use Rattle.std.specs.List.{list_any}
+use Rattle.std.proofs.lemmas.Bool.{or_right}
 use Rattle.pr_cdb.specs.declared.command.Command.TheVariants as command
 use Rattle.pr_cdb.specs.declared.wire.Request.{Request}
 use Rattle.pr_cdb.specs.declared.wire.Request.TheVariants.{Faulty}
 use Rattle.pr_cdb.specs.Ranges.{FitsWhereRead}
-use Rattle.pr_unit.specs.Replies.{good, is_request_sense, data_of}
+use Rattle.pr_unit.specs.Replies.{good, data_of}
 use Rattle.pr_unit.specs.Steps.{Step}
 use Rattle.pr_unit.proofs.lemmas.TakenSteps.GoodSteps.{good_effect, good_step}
 use Rattle.pr_unit.proofs.lemmas.Steps.QuietSteps.{quiet_steps}
 use Rattle.pr_roles.specs.Permits.{is_always_permitted, clause_permits, command_permitted, is_permitted}
+use Rattle.pr_roles.proofs.lemmas.FirstElements.Tests.{any_found, any_from}
+use Rattle.pr_roles.proofs.lemmas.Permits.ServiceActions.{Serves, looks_or_serves}
 use Rattle.pr_interference.specs.inside.Interfering.{ClauseLeads}
 use Rattle.pr_interference.proofs.lemmas.Interference.PendingStates.{like_through, quiet_like, shown_like, like_effect, cleared, formed_cleared, like_cleared, none_cleared}
-
--- ---- the clause that permits
-
-or_right : (a b : Bool) → b ≡ true → (a || b) ≡ true
-or_right true b is = refl
-or_right false b is = is
-
-pub any_found : {X : Type 0} (p : X → Bool) (xs : List X) → list_any p xs ≡ true → Among (length xs) xs (λ x. p x ≡ true)
-any_found p [] is = absurd (false≢true is)
-any_found p (x ∷ xs) is = at (p x) refl is (λ any. any_found p xs any)
-  where
-    at : (b : Bool) → p x ≡ b → (b || list_any p xs) ≡ true → (list_any p xs ≡ true → Among (length xs) xs (λ y. p y ≡ true)) → Among (length (x ∷ xs)) (x ∷ xs) (λ y. p y ≡ true)
-    at true passes any rest = record { element = x; place = 0; below = omega arith; there = refl; is = passes }
-    at false fails any rest =
-        let found = rest any in
-        record { element = found.element; place = suc found.place; below = (let below = found.below in omega arith); there = found.there; is = found.is }
-
-pub any_from : {X : Type 0} (p : X → Bool) (xs : List X) (k : ℕ) (y : X) → k < length xs → slice_index_or xs k y ≡ y → p y ≡ true → list_any p xs ≡ true
-any_from p [] k y small there passes = absurd (omega arith)
-any_from p (x ∷ xs) zero y small there passes = ap (λ b. b || list_any p xs) (ap p there ∙ passes)
-any_from p (x ∷ xs) (suc k) y small there passes = or_right (p x) (list_any p xs) (any_from p xs k y (omega arith) there passes)
 
 -- ---- a step that only looks
 
@@ -79,21 +61,6 @@ clause_left v role sender i other among =
     }
 
 -- ---- whatever is done
-
-pub record Serves (c : Command) : Type 0 where
-  pub clause : is_always_permitted c ≡ false
-  pub acts : is_request_sense (Plain c) ≡ false
-  pub looks : request_looks (Plain c) ≡ false
-
-pub looks_or_serves : (c : Command) → IsTrue (request_looks (Plain c)) ⊎ Serves c
-looks_or_serves (command.Register rk sark) = inr (record { clause = refl; acts = refl; looks = refl })
-looks_or_serves (command.RegisterIgnore sark) = inr (record { clause = refl; acts = refl; looks = refl })
-looks_or_serves (command.Reserve rk kind) = inr (record { clause = refl; acts = refl; looks = refl })
-looks_or_serves (command.Release rk kind) = inr (record { clause = refl; acts = refl; looks = refl })
-looks_or_serves (command.Clear rk) = inr (record { clause = refl; acts = refl; looks = refl })
-looks_or_serves (command.Preempt rk sark kind) = inr (record { clause = refl; acts = refl; looks = refl })
-looks_or_serves (command.PreemptAbort rk sark kind) = inr (record { clause = refl; acts = refl; looks = refl })
-looks_or_serves _ = inl refl
 
 pub done_leads : (v : View) (role : List Clause) (sender : ℕ) (u w : UnitState) → v.scope.own ≢ sender → Shows v u → IsDone role sender u w
     → IsLike v.scope.own u w ⊎ Among (length role) role (λ clause. ClauseLeads v clause sender u w)

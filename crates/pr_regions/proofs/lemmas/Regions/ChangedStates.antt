@@ -3,8 +3,9 @@ use Rattle.pr_regions.proofs.Common.{◌≡◌, ℕ, ◌≤◌, Bool, true, fals
 use Rattle.std.specs.FinSet as set
 use Rattle.pr_registry.specs.declared.change.Change.{Change as Told}
 use Rattle.pr_unit.specs.UnitStates.{pending_after, is_pending}
+use Rattle.pr_unit.proofs.lemmas.Attentions.ToldAttentions.{is_pending_after, contains-told}
 use Rattle.pr_regions.specs.Regions.{Changes}
-use Rattle.pr_regions.proofs.lemmas.Regions.ToldAttentions.{is_pending_after, contains-told, contains-codes_told, told-lt}
+use Rattle.pr_regions.proofs.lemmas.Regions.ToldAttentions.{contains-codes_told, told-lt}
 
 -- this is its registration
 pub record Is (keys : List ℕ) (u : State) (g r : ℕ) : Type 0 where

@@ -1,12 +1,7 @@
 -- States that a view of one nexus shows alike.
-use Rattle.pr_regions.proofs.Common.{◌≡◌, ℕ, sym, ap, ◌∙◌, State, key_of, UnitState, Scope, Registration, IsSo, number_of}
-use Rattle.pr_unit.specs.UnitStates.{is_pending}
+use Rattle.pr_regions.proofs.Common.{sym, ap, ◌∙◌, State, key_of, UnitState, Scope, Registration, IsSo, number_of}
+use Rattle.pr_unit.proofs.lemmas.UnitStates.AlikeStates.{IsLike}
 use Rattle.pr_views.specs.Possibilities.{Item, Reservation, Attentions}
-
--- the same registry, and the same is pending for the owner
-pub record IsLike (own : ℕ) (u w : UnitState) : Type 0 where
-  pub registry : w.registry ≡ u.registry
-  pub pending : (code : ℕ) → is_pending w own code ≡ is_pending u own code
 
 -- what is so in the one is so in the other
 pub so_like : (s : Scope) (u w : UnitState) (i : Item) → IsLike s.own u w → IsSo s u i → IsSo s w i

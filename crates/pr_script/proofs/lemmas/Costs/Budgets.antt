@@ -1,10 +1,10 @@
 -- A script sends at most as many commands as it costs.
-use Rattle.pr_script.proofs.Common.{◌≡◌, ℕ, suc, ◌+◌, ◌≤◌, max, true, false, List, [], ◌∷◌, drop, Some, option_map, arith, cost_of, cost_of_all, greatest, sends, repeats, breaks, Stmts, none, more, Arms, no_arm, arm, statement, mark, Configuration, before, past_mark, becomes, settled_form, matches}
+use Rattle.pr_script.proofs.Common.{◌≡◌, ℕ, suc, ◌+◌, ◌≤◌, max, true, false, List, [], ◌∷◌, drop, Some, option_map, ap, arith, cost_of, cost_of_all, greatest, sends, repeats, breaks, Stmts, none, more, Arms, no_arm, arm, statement, mark, Configuration, before, past_mark, becomes, settled_form, matches}
 use Rattle.std.specs.Prelude.{if◌then◌else◌}
 use Rattle.pr_cdb.specs.declared.reply.Reply.{Reply}
 use Rattle.pr_script.specs.Scripts.{first_configuration}
-use Rattle.pr_script.specs.Takes.{first_match}
-use Rattle.pr_script.specs.Costs.{commands_sent, count_in}
+use Rattle.pr_script.specs.Takes.{first_match, take}
+use Rattle.pr_script.specs.Costs.{commands, commands_sent, count_in}
 use Rattle.pr_script.specs.Laws.{CostBoundsSends}
 use Rattle.pr_script.proofs.lemmas.Next.Settlement.{kept}
 
@@ -59,3 +59,16 @@ sent_within_cost _ _ = omega arith
 pub cost_bounds_sends : CostBoundsSends
 unfolding cost_in
 cost_bounds_sends b rs = omega (arith, sent_within_cost rs (first_configuration b), cost_in-settled (before b []), cost_in-before b [])
+
+-- ---- within a cost
+
+-- with these replies to come, what was sent and what is sent yet is within the cost
+abbrev pub IsWithinCost : ℕ → Configuration → ℕ → Type 0
+IsWithinCost sent l cost = (rs : List Reply) → sent + commands_sent rs l ≤ cost
+
+-- one command more
+pub within_cost_taken : (before : ℕ) (l m : Configuration) (r : Reply) (cost : ℕ) → commands l ≡ 1 → take l r ≡ Some m → IsWithinCost before l cost → IsWithinCost (before + 1) m cost
+within_cost_taken before l m r cost one taken within rs =
+    let more = within (r ∷ rs) in
+    let rest = ap (count_in (commands_sent rs)) taken in
+    omega (arith, more, rest, one)

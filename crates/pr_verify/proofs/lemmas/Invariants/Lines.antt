@@ -14,12 +14,11 @@ use Rattle.pr_roles.specs.DeclaredRefusals.{is_among}
 use Rattle.pr_roles.specs.Worlds.{commands_by, entry_of, resets_in}
 use Rattle.pr_script.specs.Takes.{take}
 use Rattle.pr_script.specs.Costs.{commands}
-use Rattle.pr_script.proofs.lemmas.Costs.Budgets.{cost_bounds_sends}
+use Rattle.pr_script.proofs.lemmas.Costs.Budgets.{cost_bounds_sends, IsWithinCost, within_cost_taken}
 use Rattle.pr_roles.proofs.lemmas.Worlds.Counts.{sent_other, sent_own, sent_reset}
 use Rattle.pr_verify.specs.inside.Invariants.{IsTurn, IsTaken, IsInvariant}
 use Rattle.pr_verify.proofs.lemmas.Places.Successors.{Leads, leads_begun}
 use Rattle.pr_verify.proofs.lemmas.Places.Replies.{LeadsOn, IsReadyAt, ready_at}
-use Rattle.pr_verify.proofs.lemmas.Laws.Budgets.{IsWithinCost, within_cost_taken}
 
 -- ---- what is asked of what is said of lines
 

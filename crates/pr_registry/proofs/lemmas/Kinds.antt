@@ -1,0 +1,16 @@
+-- Types that are the same.
+use Rattle.pr_registry.proofs.Common.{◌≡◌, true, Some, sym, refl, ap, ◌∙◌}
+use Rattle.std.proofs.lemmas.Bool.{eqb-true}
+use Rattle.pr_cdb.specs.declared.command.Kind.{Kind}
+use Rattle.pr_cdb.specs.declared.command.Kind.TheVariants.{WriteExclusive}
+use Rattle.pr_cdb.specs.Kinds.{code_of, kind_of_code}
+use Rattle.pr_registry.specs.Changes.{is_kind}
+
+kind_back : (k : Kind) → kind_of_code (code_of k) ≡ Some k
+unfolding kind_of_code
+kind_back WriteExclusive = refl
+kind_back _ = refl
+
+pub same_kind : (s t : Kind) → is_kind s t ≡ true → s ≡ t
+same_kind s t is =
+    let both : Some s ≡ Some t = sym (kind_back s) ∙ ap kind_of_code (eqb-true (code_of s) (code_of t) is) ∙ kind_back t in cc
