@@ -4,6 +4,7 @@ pub mod Fitting
 pub mod Invariants
 pub mod Laws
 pub mod Permits
+pub mod SafeRuns
 pub mod Safety
 pub mod Scenarios
 pub mod Schedules

@@ -10,6 +10,7 @@ pub mod Worlds
 pub mod Items
 pub mod Schedules
 pub mod Safety
+pub mod SafeRuns
 pub mod Breaches
 pub mod Laws
 pub mod inside

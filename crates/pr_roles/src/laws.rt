@@ -1,6 +1,7 @@
-//! Laws of starts, of refusals and of resets, each the contract of a function with nothing to do.
+//! Laws of starts, of refusals, of resets and of safe runs, each the contract of a function with nothing to do.
 
 ghost use Rattle.pr_roles.specs.Limits.{LimitsAgree};
+ghost use Rattle.pr_roles.specs.SafeRuns.{RunsGoOn, SafeSendsAreFine};
 ghost use Rattle.pr_roles.specs.Laws.{StartsAreFound, FirstStartsAreEarliest, RefusalsAreCounted, RefusalsAreDeclared, FirstVersionIsPlain, ResetsAreCounted, ResetsAreDeclared, FirstVersionHasNoReset};
 
 /// Where parts fit, some state is allowed to start from exactly where the first start finds a reservation.
@@ -46,4 +47,16 @@ pub fn resets_are_declared()
 /// In a scenario of version 1 there is no reset.
 pub fn first_version_has_no_reset()
     ensures { FirstVersionHasNoReset }
+{}
+
+/// A run and one event more are a run.
+#[tactic(auto, using(crate::proofs::lemmas::SafeRuns::NextEvents::runs_go_on))]
+pub fn runs_go_on()
+    ensures { RunsGoOn }
+{}
+
+/// After any run of a safe scenario a script that sends finds an arm for the reply, and has kept to its budget and its
+/// role.
+pub fn safe_sends_are_fine()
+    ensures { SafeSendsAreFine }
 {}

@@ -20,6 +20,7 @@ mod role;
 mod scenario;
 mod step;
 mod uniqueness;
+mod verified;
 
 pub use entry::Entry;
 pub use fitting::{are_alternatives, are_declared, is_action};
@@ -28,7 +29,7 @@ pub use item::Item;
 pub use laws::{
     first_starts_are_earliest, first_version_has_no_reset, first_version_is_plain, limits_agree,
     refusals_are_counted, refusals_are_declared, resets_are_counted, resets_are_declared,
-    starts_are_found,
+    runs_go_on, safe_sends_are_fine, starts_are_found,
 };
 pub use nexus::nexus_in;
 pub use parts::{Nexus, Parts, Start, Task};
@@ -38,3 +39,4 @@ pub use role::{Action, Clause, Condition, Role};
 pub use scenario::{Scenario, first_start};
 pub use step::Step;
 pub use uniqueness::{are_distinct, are_held_apart};
+pub use verified::Verified;

@@ -18,7 +18,7 @@ use crate::run_error::RunError;
 use crate::seat::Seat;
 use crate::shared::SharedWorld;
 use crate::threads::in_threads;
-use pr_verify::Verified;
+use pr_roles::Verified;
 use std::alloc::Global;
 use std::marker::Brand;
 use std::sync::Wait;

@@ -3,7 +3,6 @@ pub mod Gaining
 pub mod Inferring
 pub mod Invariants
 pub mod Known
-pub mod Laws
 pub mod Least
 pub mod LeastOutlines
 pub mod Listing

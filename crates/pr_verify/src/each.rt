@@ -10,8 +10,8 @@ ghost use Rattle.pr_verify.specs.inside.Checks.{ComeTo, EachFrom, IsAnswerFor, I
 use crate::check_gate::CheckGate;
 use crate::inferring::has_script;
 use crate::refusal::Refusal;
-use crate::verifying::{Refused, Verified, check_host, verdict_on};
-use pr_roles::Scenario;
+use crate::verifying::{Refused, check_host, verdict_on};
+use pr_roles::{Scenario, Verified};
 use std::alloc::{AllocError, Global};
 use std::snapshot::Snapshot;
 use std::sync::Wait;

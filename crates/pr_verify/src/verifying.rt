@@ -11,40 +11,8 @@ use crate::checking::{check_cost, check_fit};
 use crate::inferring::infer;
 use crate::laws::outlines_make_safe;
 use crate::refusal::Refusal;
-use pr_roles::{Scenario, Task, nexus_in};
+use pr_roles::{Scenario, Task, Verified, nexus_in};
 use std::alloc::Global;
-use std::marker::Model;
-
-/// A scenario that was verified: it is safe.
-#[derive(Drop)]
-pub struct Verified {
-    scenario: Scenario,
-}
-
-impl Model for Verified {
-    ghost use Rattle.pr_roles.specs.contracts.scenario.Scenario as scenario_code;
-    ghost use Rattle.pr_roles.specs.declared.parts.Parts.{Parts};
-    ghost use Rattle.pr_roles.specs.Scenarios.{scenario_of};
-    ghost use Rattle.pr_roles.specs.Safety.{IsSafe};
-
-    ghost Value = { Parts };
-
-    ghost coded = { scenario_code.the_row.coded };
-
-    ghost view = { λ v. v.scenario };
-
-    ghost invariant = { λ v. IsSafe (scenario_of v.scenario) };
-}
-
-impl Verified {
-    /// The very scenario that was verified.
-    pub fn scenario(&self) -> &Scenario
-        ensures value { result.now ≡ self.now }
-        ensures safe { IsSafe (scenario_of self.now) }
-    {
-        &self.scenario
-    }
-}
 
 /// A scenario that was refused, and why.
 #[derive(Drop)]
@@ -90,7 +58,7 @@ pub(crate) fn verdict_on(
     match checked {
         Ok(()) => {
             outlines_make_safe();
-            Ok(Verified { scenario })
+            Ok(Verified::of(scenario))
         }
         Err(refusal) => Err(Refused { scenario, refusal }),
     }

@@ -10,10 +10,9 @@ use crate::act::Act;
 use crate::course::Course;
 use crate::turn::Turn;
 use pr_audit::End;
-use pr_roles::{How, Item, Nexus, Scenario, Step, Task};
+use pr_roles::{How, Item, Nexus, Scenario, Step, Task, Verified};
 use pr_script::end_word;
 use pr_unit::Unit;
-use pr_verify::Verified;
 use std::alloc::{AllocError, Global};
 use std::marker::Model;
 

@@ -27,7 +27,7 @@ use Rattle.pr_roles.specs.contracts.parts.Task as task
 use Rattle.pr_roles.specs.contracts.parts.Nexus as nexus
 use Rattle.pr_roles.specs.contracts.parts.Parts as parts
 use Rattle.pr_roles.specs.contracts.scenario.Scenario as scenario
-use Rattle.pr_verify.specs.contracts.verifying.Verified as verified
+use Rattle.pr_roles.specs.contracts.verified.Verified as verified
 use Rattle.pr_world.specs.contracts.world.World as world
 use Rattle.pr_world.specs.contracts.world.World.TheInside as inside
 use Rattle.pr_shared.specs.contracts.kept.Kept as kept

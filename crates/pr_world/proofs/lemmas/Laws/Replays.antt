@@ -1,4 +1,5 @@
 -- What safety and legality say of a replay.
+use Rattle.pr_roles.proofs.lemmas.SafeRuns.NextEvents.{safe_sends_are_fine}
 use Rattle.pr_world.proofs.Common.{◌≡◌, ℕ, zero, suc, ◌<◌, ◌≤◌, false, List, [], ◌∷◌, ◌++◌, map, length, IsTrue, slice_get, Some, sym, refl, ap, ◌∙◌, subst, arith, range_with_len, option_map_or, false≢true, nat_tests, get_or_past, spelling, UnitState, Stmts, IsLegal, IsSafe, Scripted, task, Scenario, Control, Free, World, entry_of, Event, Host, Guest, UnitReset, is_guest_task, Happens, commands_by, is_trapped, Entry, Item, Sent, Reset, Step, Reaches}
 use Rattle.std.proofs.Common.{◌||◌, zero-add, slice_index}
 use Rattle.std.specs.List.{list_any}
@@ -11,7 +12,6 @@ use Rattle.pr_audit.specs.Ends.{is_trapped_end}
 use Rattle.pr_world.specs.Laws.{IsPermittedAfter}
 use Rattle.pr_world.specs.Replays.{IsReplayed}
 use Rattle.pr_audit.proofs.lemmas.Auditing.Histories.{last_same, legal_before, reached_before}
-use Rattle.pr_verify.proofs.lemmas.Laws.Runs.{safe_sends_are_fine}
 
 pub replay_is_legal : (s : Scenario) (steps : List Step) (r : Replayed) (x : IsReplayed s steps r) → IsLegal s x.start r.history.items
 replay_is_legal s steps r x = (x.events, x.last.world, x.reached, sym x.outcome.history)

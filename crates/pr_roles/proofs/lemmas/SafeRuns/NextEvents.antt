@@ -1,7 +1,9 @@
 -- A run and one event more.
-use Rattle.pr_verify.proofs.Common.{[], ◌∷◌, ◌++◌, refl, subst, IsSafe, Host, world_from}
-use Rattle.pr_roles.specs.Worlds.{Run}
-use Rattle.pr_verify.specs.Laws.{RunsGoOn, SafeSendsAreFine}
+use Rattle.pr_roles.proofs.Common.{[], ◌∷◌, refl, subst, world_from}
+use Rattle.std.proofs.Common.{◌++◌}
+use Rattle.pr_roles.specs.Worlds.{Host, Run}
+unfoldable use Rattle.pr_roles.specs.Safety.{IsSafe}
+use Rattle.pr_roles.specs.SafeRuns.{RunsGoOn, SafeSendsAreFine}
 
 pub runs_go_on : RunsGoOn
 runs_go_on s w v x [] e run happens = subst (λ u. Run s u (e ∷ []) x) run (x, happens, refl)

@@ -1,0 +1,29 @@
+-- Agrees with docs/VERDICTS.md, '`accepted`'.
+-- What safety promises of the next event.
+use Rattle.std.specs.Prelude.{◌≡◌, ℕ, true, false, IsTrue, List, [], ◌∷◌, ◌++◌}
+use Rattle.pr_cdb.specs.declared.wire.Request.TheVariants.{Plain}
+use Rattle.pr_unit.specs.UnitStates.{UnitState}
+use Rattle.pr_unit.specs.Replies.{is_good}
+use Rattle.pr_roles.specs.declared.how.How.{How}
+use Rattle.pr_roles.specs.Permits.{is_permitted}
+use Rattle.pr_roles.specs.Scenarios.{Scenario, role, task}
+use Rattle.pr_roles.specs.Starts.{IsAllowedStart}
+use Rattle.pr_roles.specs.Worlds.{World, Event, HostSends, Happens, Run, control, is_trapped, world_from}
+use Rattle.pr_roles.specs.Safety.{IsSafe, KeepsBudgetBy}
+
+-- a run and one event more are a run
+abbrev pub RunsGoOn : Type 0
+RunsGoOn = (s : Scenario) (w v x : World) (es : List Event) (e : Event) → Run s w es v → Happens s v e x → Run s w (es ++ e ∷ []) x
+
+-- A command of a host that leads to this world: the script found an arm for its reply, sent no more commands than its
+-- budget, and kept to its role.
+pub record IsFine (s : Scenario) (w : World) (h : ℕ) (how : How) (v : World) (sends : HostSends s w h how v) : Type 0 where
+  pub arm : is_trapped (control v h) ≡ false
+  pub budget : KeepsBudgetBy (task s h) v h
+  pub role : is_good sends.reply ≡ true → IsTrue (is_permitted (role s h) w.unit.registry h (Plain sends.command))
+
+-- so does each that comes after a run of a safe scenario
+abbrev pub SafeSendsAreFine : Type 0
+SafeSendsAreFine =
+    (s : Scenario) (u : UnitState) (es : List Event) (w : World) (h : ℕ) (how : How) (v : World) → IsSafe s → IsAllowedStart s u → Run s (world_from s u) es w
+    → (sends : HostSends s w h how v) → IsFine s w h how v sends

@@ -1,0 +1,47 @@
+//! Scenarios that are safe by their type.
+
+ghost use Rattle.std.specs.Prelude.{◌≡◌};
+ghost use Rattle.pr_roles.specs.Scenarios.{scenario_of};
+ghost use Rattle.pr_roles.specs.Safety.{IsSafe};
+
+use crate::scenario::Scenario;
+use std::marker::Model;
+
+/// A scenario that was verified: it is safe.
+#[derive(Drop)]
+pub struct Verified {
+    scenario: Scenario,
+}
+
+impl Model for Verified {
+    ghost use Rattle.pr_roles.specs.contracts.scenario.Scenario as scenario_code;
+    ghost use Rattle.pr_roles.specs.declared.parts.Parts.{Parts};
+    ghost use Rattle.pr_roles.specs.Scenarios.{scenario_of};
+    ghost use Rattle.pr_roles.specs.Safety.{IsSafe};
+
+    ghost Value = { Parts };
+
+    ghost coded = { scenario_code.the_row.coded };
+
+    ghost view = { λ v. v.scenario };
+
+    ghost invariant = { λ v. IsSafe (scenario_of v.scenario) };
+}
+
+impl Verified {
+    /// The scenario, which is safe, as one that was verified.
+    pub fn of(scenario: Scenario) -> Self
+        requires { IsSafe (scenario_of scenario) }
+        ensures { result ≡ scenario }
+    {
+        Verified { scenario }
+    }
+
+    /// The very scenario that was verified.
+    pub fn scenario(&self) -> &Scenario
+        ensures value { result.now ≡ self.now }
+        ensures safe { IsSafe (scenario_of self.now) }
+    {
+        &self.scenario
+    }
+}
