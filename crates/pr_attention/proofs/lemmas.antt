@@ -1,3 +1,4 @@
 pub mod Bits
+pub mod FourCodes
 pub mod LowestCodes
 pub mod Sets

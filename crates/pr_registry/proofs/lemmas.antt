@@ -1,4 +1,5 @@
 pub mod Bits
+pub mod Contents
 pub mod KeyValues
 pub mod Kinds
 pub mod Sets

@@ -1,4 +1,3 @@
-pub mod Contents
 pub mod KeyArms
 pub mod KeyTests
 pub mod ReservationArms

@@ -1,6 +1,6 @@
 -- A step of a command is one of the ways in which it ends.
-use Rattle.pr_domain.proofs.Common.{◌≡◌, ℕ, Bool, true, false, ◌⊎◌, IsTrue, ◌==◌, Some, None, Option, sym, refl, ap, ◌∙◌, inl, inr, arith, or_left, or_right, nat_tests, Command, Reply, Sense, Plain, power_on, reservations_preempted, reservations_released, registrations_preempted, code_of, Attention, PowerOn, ReservationsPreempted, ReservationsReleased, RegistrationsPreempted, command_conflicts, command_fault, report, Step, UnitState, is_pending, is_any_pending, IsWellFormed, after_report, Answered, Refusals, Ending, Reports, Conflicts, Fails, EndsGood, Refuses, Ends}
-use Rattle.pr_attention.specs.Attentions.{is_attention}
+use Rattle.pr_domain.proofs.Common.{◌≡◌, ℕ, Bool, true, false, ◌⊎◌, IsTrue, Some, None, Option, sym, refl, ap, ◌∙◌, inl, inr, or_left, or_right, Command, Reply, Sense, Plain, power_on, reservations_preempted, reservations_released, code_of, Attention, PowerOn, ReservationsPreempted, ReservationsReleased, RegistrationsPreempted, command_conflicts, command_fault, report, Step, UnitState, is_pending, is_any_pending, IsWellFormed, after_report, Answered, Refusals, Ending, Reports, Conflicts, Fails, EndsGood, Refuses, Ends}
+use Rattle.pr_attention.proofs.lemmas.FourCodes.{which}
 use Rattle.pr_unit.specs.Steps.{Reports as ReportsSome}
 use Rattle.pr_roles.specs.declared.how.How.TheVariants as answer
 use Rattle.pr_roles.specs.declared.how.How.{How}
@@ -8,18 +8,6 @@ use Rattle.pr_roles.specs.Answers.{Answers}
 use Rattle.pr_roles.specs.DeclaredRefusals.{is_among}
 use Rattle.pr_domain.specs.declared.reporting.Unserved.TheVariants as refused
 use Rattle.pr_domain.specs.inside.Reporting.{IsReport, comes}
-
--- a code that is pending is one of the four
-pub which : (code : ℕ) → is_attention code ≡ true → (a : Attention) × (code ≡ code_of a)
-which code is = at (code == power_on) (code == reservations_preempted) (code == reservations_released) (code == registrations_preempted) refl refl refl refl is
-  where
-    at : (p q r t : Bool) → (code == power_on) ≡ p → (code == reservations_preempted) ≡ q → (code == reservations_released) ≡ r → (code == registrations_preempted) ≡ t
-        → is_attention code ≡ true → (a : Attention) × (code ≡ code_of a)
-    at true q r t p_is q_is r_is t_is is = (PowerOn, grind (arith, nat_tests))
-    at false true r t p_is q_is r_is t_is is = (ReservationsPreempted, grind (arith, nat_tests))
-    at false false true t p_is q_is r_is t_is is = (ReservationsReleased, grind (arith, nat_tests))
-    at false false false true p_is q_is r_is t_is is = (RegistrationsPreempted, grind (arith, nat_tests))
-    at false false false false p_is q_is r_is t_is is = absurd (grind (arith, nat_tests))
 
 report_ends : (d : Refusals) (u : UnitState) (h : ℕ) (c : Command) (r : Reply) (w : UnitState) → IsWellFormed u → is_pending u h power_on ≡ false → command_conflicts u.registry h c ≡ false
     → ReportsSome u h (Plain c) r w → (ending : Ending) × IsTrue (comes d ending) × Ends ending c h u r w

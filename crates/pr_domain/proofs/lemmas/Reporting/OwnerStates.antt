@@ -7,6 +7,7 @@ use Rattle.pr_cdb.specs.declared.command.Kind.{Kind}
 use Rattle.pr_cdb.specs.declared.command.Command.TheVariants.{Register, RegisterIgnore, Release, Clear, Preempt, PreemptAbort}
 use Rattle.pr_attention.proofs.lemmas.Sets.{same_codes, contains-no_code, contains-remove_code}
 use Rattle.pr_attention.proofs.lemmas.Bits.{same_bits, codes_of-zero, AreAttentions-codes_of}
+use Rattle.pr_attention.proofs.lemmas.FourCodes.{which}
 use Rattle.pr_registry.specs.declared.change.Change.{Change}
 use Rattle.pr_registry.specs.Hosts.{Hosts, Keys, nobody, just, without}
 use Rattle.pr_registry.specs.Registrations.{is_registered, others, holds_alone}
@@ -19,7 +20,7 @@ use Rattle.pr_unit.proofs.lemmas.Attentions.ToldAttentions.{is_pending_after, co
 use Rattle.pr_script.specs.Grammar.{is_declared}
 use Rattle.pr_regions.proofs.lemmas.Regions.Effects.{not_itself, contains-others_itself}
 use Rattle.pr_domain.specs.inside.Reporting.{IsAfter}
-use Rattle.pr_domain.proofs.lemmas.Reporting.Ends.{which, any_pending}
+use Rattle.pr_domain.proofs.lemmas.Reporting.Ends.{any_pending}
 
 -- ---- a report
 

@@ -6,8 +6,8 @@ use Rattle.pr_attention.specs.Attentions.{is_attention, Codes}
 use Rattle.pr_attention.specs.Flagged.{place_of}
 use Rattle.pr_attention.proofs.lemmas.Bits.{contains-codes_of, AreAttentions-codes_of}
 use Rattle.pr_attention.proofs.lemmas.Sets.{is_attention-code_of}
+use Rattle.pr_attention.proofs.lemmas.FourCodes.{which}
 use Rattle.pr_domain.specs.inside.Beginning.{AreAmong}
-use Rattle.pr_domain.proofs.lemmas.Reporting.Ends.{which}
 
 -- ---- within another
 

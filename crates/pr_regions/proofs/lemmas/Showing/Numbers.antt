@@ -1,9 +1,10 @@
 -- A registration, a reservation and a set of attentions each have one number.
-use Rattle.pr_regions.proofs.Common.{◌≡◌, ℕ, zero, suc, ◌+◌, ◌*◌, ◌<◌, ◌≤◌, Bool, true, false, not, ◌||◌, ◌⊎◌, List, [], ◌∷◌, length, is_some, IsTrue, nat_lt, nat_le, ◌==◌, Some, None, Option, sym, refl, ap, ◌∙◌, inl, inr, arith, list_any, false≢true, nat_tests, Kind, codes_of, Held, UnitState, Scope, number_of, key_at, IsScope, Registration, IsSo, MOST_KEYS}
+use Rattle.pr_regions.proofs.Common.{◌≡◌, ℕ, zero, suc, ◌+◌, ◌<◌, ◌≤◌, Bool, true, false, not, ◌||◌, ◌⊎◌, List, [], ◌∷◌, length, is_some, IsTrue, nat_lt, nat_le, ◌==◌, Some, None, Option, sym, refl, ap, ◌∙◌, inl, inr, arith, list_any, false≢true, nat_tests, Kind, codes_of, Held, UnitState, Scope, number_of, key_at, IsScope, Registration, IsSo, MOST_KEYS}
 use Rattle.std.specs.List.{slice_get}
 use Rattle.std.proofs.lemmas.Bool.{and_parts}
 use Rattle.std.proofs.lemmas.Bool.Decides.{leb_tells}
 use Rattle.std.proofs.Math.Nat.{mul-le-mul_left}
+use Rattle.std.proofs.Common.{◌*◌}
 use Rattle.pr_cdb.specs.declared.command.Kind.TheVariants.{WriteExclusive, ExclusiveAccess, WriteExclusiveRegistrantsOnly, ExclusiveAccessRegistrantsOnly, WriteExclusiveAllRegistrants, ExclusiveAccessAllRegistrants}
 use Rattle.pr_registry.specs.declared.held.Held.TheVariants.{One, All as Everybody}
 use Rattle.pr_registry.specs.Registrations.{is_all}

@@ -21,7 +21,9 @@ use Rattle.pr_cdb.specs.ReplyData.{sense_bytes, keys_bytes, reservation_bytes, c
 use Rattle.pr_attention.specs.declared.attention.Attention.{Attention}
 use Rattle.pr_attention.specs.declared.attention.Attention.TheVariants.{PowerOn, ReservationsPreempted, ReservationsReleased, RegistrationsPreempted}
 use Rattle.pr_attention.specs.Attentions.{power_on, attention_sense, is_attention, code_of as code_of_attention}
+use Rattle.pr_attention.proofs.lemmas.FourCodes.{which}
 use Rattle.pr_registry.specs.Registrations.{State, IsWellFormed}
+use Rattle.pr_registry.proofs.lemmas.Contents.{few_keys, length-keys_bytes}
 use Rattle.pr_unit.specs.Conflicts.{conflicts}
 use Rattle.pr_unit.specs.UnitStates.{UnitState, IsWellFormed as IsWellFormedUnit, is_any_pending, is_pending}
 use Rattle.pr_unit.specs.Faults.{fault, command_fault, preempt_fault, range_fault, illegal as illegal_request}
@@ -29,8 +31,6 @@ use Rattle.pr_unit.specs.Replies.{good, check, conflict, busy, full, report, is_
 use Rattle.pr_unit.specs.Steps.{IsDone, Step}
 use Rattle.pr_roles.specs.declared.limits.TheConstants.{MOST_DECLARED_1, MOST_DECLARED_2}
 use Rattle.pr_roles.specs.Fitting.{most_declared}
-use Rattle.pr_domain.proofs.lemmas.Reporting.Ends.{which}
-use Rattle.pr_regions.proofs.lemmas.Readings.Contents.{few_keys, length-keys_bytes}
 use Rattle.pr_report.specs.Versions.{has_status, most_data}
 use Rattle.pr_report.specs.TraceLaws.{HasSense}
 use Rattle.pr_roles.proofs.lemmas.Worlds.SpelledBytes.{both, code_small, literal, more, none, number}

@@ -1,16 +1,17 @@
 -- The data of READ KEYS and READ RESERVATION, read back.
-use Rattle.pr_regions.proofs.Common.{◌≡◌, ℕ, zero, suc, ◌+◌, ◌*◌, ◌^◌, ◌<◌, ◌≤◌, Bool, true, false, ◌||◌, ◌≢◌, ◌⊎◌, List, [], ◌∷◌, ◌++◌, length, if◌then◌else◌, nat_lt, nat_le, ◌==◌, slice_index, Some, None, Option, sym, refl, ap, ◌∙◌, inl, inr, add-one, arith, lit<, length-append, list_any, false≢true, nat_tests, eqb_tells, Kind, State, key_of}
+use Rattle.pr_registry.proofs.Common.{◌≡◌, ℕ, zero, suc, ◌+◌, ◌<◌, ◌≤◌, Bool, true, false, List, [], ◌∷◌, length, if◌then◌else◌, nat_lt, ◌==◌, Some, None, Option, sym, refl, ap, ◌∙◌, arith, false≢true, nat_tests, State, MOST_NEXUSES, map_where, IsWellFormed}
+use Rattle.std.proofs.Common.{◌*◌, ◌^◌, ◌||◌, ◌≢◌, ◌⊎◌, ◌++◌, nat_le, slice_index, inl, inr, add-one, lit<, length-append}
 use Rattle.std.specs.Int.{w32, w64, to_be_bytes}
 use Rattle.std.specs.FinMap as map
-use Rattle.std.specs.List.{flat_map}
+use Rattle.std.specs.List.{flat_map, list_any}
 use Rattle.std.proofs.lemmas.List.{take_all}
+use Rattle.std.proofs.lemmas.Bool.Decides.{eqb_tells}
 use Rattle.std.proofs.lemmas.List.Folds.{list_any-append}
 use Rattle.pr_cdb.specs.ReplyData.{keys_bytes, keys_in, reservation_bytes, holder, holder_in, cut}
 use Rattle.pr_cdb.specs.inside.KeyWidths.{HasKey}
 use Rattle.pr_cdb.proofs.lemmas.ReplyRoundTrip.{keys_in-keys_bytes, holder_in-reservation_bytes}
-use Rattle.pr_cdb.specs.declared.codes.TheConstants.{MOST_NEXUSES}
-use Rattle.pr_registry.specs.Hosts.{map_where}
-use Rattle.pr_registry.specs.Registrations.{IsWellFormed}
+use Rattle.pr_cdb.specs.declared.command.Kind.{Kind}
+use Rattle.pr_registry.specs.Registrations.{key_of}
 use Rattle.pr_registry.proofs.lemmas.Sets.{same_keys, get-map_where}
 use Rattle.pr_registry.proofs.lemmas.KeyValues.{values-map_where-some, values-map_where-none, values-map_where-zero}
 
