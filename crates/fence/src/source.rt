@@ -2,8 +2,8 @@
 
 use arrayvec::ArrayVec;
 use pr_commands::{Fault, file_fault};
-use pr_report::TraceError;
 use pr_text::ReadError;
+use pr_trace::TraceError;
 use std::fs::File;
 use std::io::{Read, Stdin};
 use std::os::fd::{AsRawFd, RawFd};

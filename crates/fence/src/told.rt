@@ -5,13 +5,13 @@ ghost use Rattle.pr_roles.specs.Scenarios.{scenario_of};
 ghost use Rattle.pr_text.specs.declared.text.TheConstants.{MOST_BYTES};
 ghost use Rattle.pr_text.specs.BytesRead.{LosesUpTo};
 ghost use Rattle.pr_text.specs.Reading.{IsRead};
-ghost use Rattle.pr_report.specs.BytesTaken.{TakesUpTo, most_of_trace};
-ghost use Rattle.pr_report.specs.TraceReadings.{FaultsTrace, ReadsTrace};
+ghost use Rattle.pr_trace.specs.BytesTaken.{TakesUpTo, most_of_trace};
+ghost use Rattle.pr_trace.specs.TraceReadings.{FaultsTrace, ReadsTrace};
 
 use pr_faults::{write_text_fault, write_trace_fault};
-use pr_report::{TraceError, read_trace};
 use pr_roles::{Item, Scenario};
 use pr_text::{ReadError, read_with_text};
+use pr_trace::{TraceError, read_trace};
 use std::alloc::Global;
 use std::io::{Read, Write};
 

@@ -5,8 +5,8 @@ use Rattle.std.specs.List.{position}
 use Rattle.pr_roles.specs.Scenarios.{Scenario, Task, Scripted, Planned, task}
 use Rattle.pr_audit.specs.declared.end.End.{End}
 use Rattle.pr_lines.specs.WordTerms.{amount_of, name_of, value_after}
-use Rattle.pr_report.specs.TraceReadings.{number_of}
-use Rattle.pr_report.specs.TraceText.{names_in}
+use Rattle.pr_trace.specs.TraceReadings.{number_of}
+use Rattle.pr_trace.specs.TraceText.{names_in}
 use Rattle.pr_explore.specs.Exits.{Exit, ExitsTrapped, ExitsWith}
 use Rattle.pr_explore.specs.Together.{exit_in}
 use Rattle.pr_commands.specs.declared.asked.TheConstants.{EQUALS, MOST_LINE}

@@ -10,12 +10,12 @@ use Rattle.pr_roles.specs.Scenarios.{Scenario}
 use Rattle.pr_text.specs.declared.fault.ReadError.{ReadError}
 use Rattle.pr_text.specs.Reading.{IsWrittenAs}
 use Rattle.pr_audit.specs.Audits.{IsLegalFromFirst, IsFirstIllegal}
-use Rattle.pr_report.specs.declared.trace_error.TraceError.{TraceError}
+use Rattle.pr_trace.specs.declared.trace_error.TraceError.{TraceError}
 use Rattle.pr_report.specs.declared.verdict.Verdict.{Verdict}
 use Rattle.pr_report.specs.declared.verdict.Verdict.TheVariants.{Accepted, Refused, Legal, Illegal}
-use Rattle.pr_report.specs.BytesTaken.{LosesUpTo, most_of_trace, most_of_any_trace}
-use Rattle.pr_report.specs.TraceReadings.{Faults, trace_of}
-use Rattle.pr_report.specs.TraceText.{names_in}
+use Rattle.pr_trace.specs.BytesTaken.{LosesUpTo, most_of_trace, most_of_any_trace}
+use Rattle.pr_trace.specs.TraceReadings.{Faults, trace_of}
+use Rattle.pr_trace.specs.TraceText.{names_in}
 use Rattle.pr_report.specs.Verdicts.{is_refusal, verdict_text}
 use Rattle.pr_commands.specs.declared.fault.Fault.{Fault}
 use Rattle.pr_commands.specs.declared.fault.Fault.TheVariants as fault

@@ -6,7 +6,7 @@ use Rattle.pr_roles.specs.Safety.{IsSafe}
 use Rattle.pr_verify.specs.Outlines.{HaveOutlines}
 use Rattle.pr_verify.specs.Verdicts.{IsFirstReason}
 use Rattle.pr_text.specs.Reading.{IsWrittenAs}
-use Rattle.pr_report.specs.TraceText.{names_in}
+use Rattle.pr_trace.specs.TraceText.{names_in}
 use Rattle.pr_report.specs.Verdicts.{is_refusal, verdict_text}
 use Rattle.pr_report.specs.declared.verdict.Verdict.{Verdict}
 use Rattle.pr_report.specs.declared.verdict.Verdict.TheVariants.{Accepted, Refused, Legal, Illegal}

@@ -4,7 +4,7 @@ use Rattle.std.specs.Prelude.{◌≡◌, ℕ, Bool, true, false, List, [], ◌�
 use Rattle.pr_roles.specs.Scenarios.{Scenario}
 use Rattle.pr_text.specs.Reading.{IsWrittenAs}
 use Rattle.pr_audit.specs.declared.end.End.{End}
-use Rattle.pr_report.specs.TraceText.{names_in}
+use Rattle.pr_trace.specs.TraceText.{names_in}
 use Rattle.pr_witness.specs.declared.ending.Ends.{Ends}
 use Rattle.pr_witness.specs.declared.ending.Sought.{Sought}
 use Rattle.pr_witness.specs.declared.ending.Sought.TheVariants.{Found, Never, Nothing}

@@ -6,7 +6,7 @@ use Rattle.std.specs.List.{flat_map, range_with_len, slice_get}
 use Rattle.pr_audit.specs.declared.end.End.{End}
 use Rattle.pr_audit.specs.declared.end.End.TheVariants as end
 use Rattle.pr_output.specs.PrintedLines.{line}
-use Rattle.pr_report.specs.TraceText.{name_of}
+use Rattle.pr_trace.specs.TraceText.{name_of}
 use Rattle.pr_explore.specs.declared.endings.Together.{Together}
 use Rattle.pr_explore.specs.declared.explorer.Bound.{Bound}
 use Rattle.pr_explore.specs.declared.explorer.Bound.TheVariants.{Worlds, Depth, Memory}

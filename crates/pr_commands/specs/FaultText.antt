@@ -9,8 +9,8 @@ use Rattle.pr_text.specs.declared.fault.Which.TheVariants as which
 use Rattle.pr_text.specs.declared.fault.ReadError.{ReadError}
 use Rattle.pr_text.specs.declared.fault.ReadError.TheVariants as input
 use Rattle.pr_output.specs.PrintedLines.{line}
-use Rattle.pr_report.specs.declared.trace_error.TraceError.{TraceError}
-use Rattle.pr_report.specs.declared.trace_error.TraceError.TheVariants as trace
+use Rattle.pr_trace.specs.declared.trace_error.TraceError.{TraceError}
+use Rattle.pr_trace.specs.declared.trace_error.TraceError.TheVariants as trace
 use Rattle.pr_commands.specs.declared.fault.Fault.{Fault}
 use Rattle.pr_commands.specs.declared.fault.Fault.TheVariants as fault
 use Rattle.pr_commands.specs.declared.fault.ExitStatus.{ExitStatus}

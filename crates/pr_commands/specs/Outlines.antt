@@ -4,7 +4,7 @@ use Rattle.std.specs.Prelude.{◌≡◌, ℕ, Bool, false, List, Option, Result}
 use Rattle.pr_roles.specs.Scenarios.{Scenario}
 use Rattle.pr_verify.specs.Tables.{Table, AreTables}
 use Rattle.pr_text.specs.Reading.{IsWrittenAs}
-use Rattle.pr_report.specs.TraceText.{names_in}
+use Rattle.pr_trace.specs.TraceText.{names_in}
 use Rattle.pr_report.specs.OutlineText.{outlines_text}
 use Rattle.pr_commands.specs.declared.fault.Fault.{Fault}
 use Rattle.pr_commands.specs.Endings.{Outputs}

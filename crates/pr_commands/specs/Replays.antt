@@ -12,8 +12,8 @@ use Rattle.pr_audit.specs.Ends.{ending_of}
 use Rattle.pr_world.specs.declared.replaying.Replayed.{Replayed}
 use Rattle.pr_world.specs.Replays.{IsEndOf}
 use Rattle.pr_text.specs.Reading.{IsWrittenAs}
-use Rattle.pr_report.specs.TraceText.{names_in, trace_text}
-use Rattle.pr_report.specs.Traces.{IsTraceOf as IsTraceOfSchedule}
+use Rattle.pr_trace.specs.TraceText.{names_in, trace_text}
+use Rattle.pr_trace.specs.Traces.{IsTraceOf as IsTraceOfSchedule}
 use Rattle.pr_commands.specs.declared.fault.Fault.{Fault}
 use Rattle.pr_commands.specs.declared.fault.Fault.TheVariants as fault
 use Rattle.pr_commands.specs.Endings.{Outputs}

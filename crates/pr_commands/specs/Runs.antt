@@ -12,7 +12,7 @@ use Rattle.pr_verify.specs.Verdicts.{IsFirstReason}
 use Rattle.pr_audit.specs.Ends.{ending_of}
 use Rattle.pr_shared.specs.declared.outcome.Outcome.{Outcome}
 use Rattle.pr_shared.specs.Outcomes.{IsOutcome}
-use Rattle.pr_report.specs.TraceText.{name_of, names_in, trace_text}
+use Rattle.pr_trace.specs.TraceText.{name_of, names_in, trace_text}
 use Rattle.pr_report.specs.Verdicts.{verdict_text}
 use Rattle.pr_report.specs.declared.verdict.Verdict.TheVariants.{Refused}
 use Rattle.pr_commands.specs.declared.fault.Fault.{Fault}

@@ -6,7 +6,7 @@ use Rattle.pr_roles.specs.declared.how.How.{How}
 use Rattle.pr_roles.specs.declared.how.How.TheVariants as how
 use Rattle.pr_roles.specs.declared.step.Step.{Step}
 use Rattle.pr_roles.specs.declared.step.Step.TheVariants.{Of, Reset}
-use Rattle.pr_report.specs.TraceReadings.{number_of}
+use Rattle.pr_trace.specs.TraceReadings.{number_of}
 use Rattle.pr_commands.specs.declared.replays.TheConstants.{MOST_STEPS}
 
 -- the words as a call has them

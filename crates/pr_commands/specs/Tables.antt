@@ -3,8 +3,8 @@
 use Rattle.std.specs.Prelude.{◌≡◌, ℕ, Bool, if◌then◌else◌, List, Option, Some, None, IfSome, option_and_then, Result}
 use Rattle.pr_roles.specs.Scenarios.{Scenario, task}
 use Rattle.pr_text.specs.Reading.{IsWrittenAs}
-use Rattle.pr_report.specs.TraceReadings.{number_of}
-use Rattle.pr_report.specs.TraceText.{names_in}
+use Rattle.pr_trace.specs.TraceReadings.{number_of}
+use Rattle.pr_trace.specs.TraceText.{names_in}
 use Rattle.pr_report.specs.Verdicts.{is_refusal, verdict_text}
 use Rattle.pr_report.specs.declared.verdict.Verdict.{Verdict}
 use Rattle.pr_report.specs.declared.verdict.Verdict.TheVariants.{Accepted, Refused, Legal, Illegal}

@@ -10,7 +10,7 @@ use Rattle.pr_unit.specs.UnitStates.{UnitState, is_pending}
 use Rattle.pr_roles.specs.declared.item.Item.{Item}
 use Rattle.pr_audit.specs.Ends.{ending_of}
 use Rattle.pr_output.specs.PrintedLines.{line, attention_word, class_word, generation_word, key_word}
-use Rattle.pr_report.specs.TraceText.{held_word, name_of, trace_body}
+use Rattle.pr_trace.specs.TraceText.{held_word, name_of, trace_body}
 use Rattle.pr_report.specs.Verdicts.{no_arm_words, place_words}
 use Rattle.pr_witness.specs.declared.breach.Breach.{Breach}
 use Rattle.pr_witness.specs.declared.breach.CertifiedRun.{CertifiedRun}

@@ -8,7 +8,7 @@ use Rattle.pr_text.specs.Reading.{IsWrittenAs}
 use Rattle.pr_verify.specs.declared.refusal.Refusal.{Refusal}
 use Rattle.pr_verify.specs.Verdicts.{IsFirstReason}
 use Rattle.pr_output.specs.PrintedLines.{line}
-use Rattle.pr_report.specs.TraceText.{names_in}
+use Rattle.pr_trace.specs.TraceText.{names_in}
 use Rattle.pr_explore.specs.declared.explorer.Bound.{Bound}
 use Rattle.pr_explore.specs.declared.explorer.Bound.TheVariants.{Worlds, Depth, Memory}
 use Rattle.pr_witness.specs.declared.searching.Finding.{Finding}

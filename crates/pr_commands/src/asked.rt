@@ -4,7 +4,7 @@ ghost use Rattle.std.specs.Prelude.{◌≡◌, ◌≤◌, ◌<◌, ◌==◌, IfO
 ghost use Rattle.std.specs.List.{position};
 ghost use Rattle.pr_cdb.specs.declared.codes.TheConstants.{MOST_NEXUSES};
 ghost use Rattle.pr_roles.specs.Scenarios.{scenario_of, task};
-ghost use Rattle.pr_report.specs.TraceText.{names_of};
+ghost use Rattle.pr_trace.specs.TraceText.{names_of};
 ghost use Rattle.pr_explore.specs.Together.{exit_in};
 ghost use Rattle.pr_commands.specs.Asked.{ask_of, asks_of, exit_asked, exits_of, has_script, is_free};
 ghost use Rattle.pr_commands.specs.Steps.{texts_of};
@@ -12,8 +12,8 @@ ghost use Rattle.pr_commands.specs.declared.asked.TheConstants.{EQUALS};
 
 use pr_audit::End;
 use pr_lines::{amount_of, name_of, value_after};
-use pr_report::number_of;
 use pr_roles::{Nexus, Scenario, Task};
+use pr_trace::number_of;
 use std::alloc::{AllocError, Global};
 
 // What stands between the name and the word.

@@ -13,9 +13,10 @@ ghost use Rattle.pr_commands.specs.inside.Audited.{IsAudited};
 use crate::ending::ended;
 use crate::fault::{ExitStatus, Fault};
 use pr_audit::{AuditError, audit};
-use pr_report::{Verdict, read_trace, write_verdict};
+use pr_report::{Verdict, write_verdict};
 use pr_roles::{Item, Scenario};
 use pr_text::read;
+use pr_trace::read_trace;
 use std::alloc::Global;
 use std::io::{Read, Write};
 

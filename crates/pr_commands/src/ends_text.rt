@@ -6,7 +6,7 @@ ghost use Rattle.std.specs.List.{flat_map};
 ghost use Rattle.pr_explore.specs.declared.endings.Together.{Together};
 ghost use Rattle.pr_output.specs.PrintedLines.{line};
 ghost use Rattle.pr_output.specs.Written.{Writes};
-ghost use Rattle.pr_report.specs.TraceText.{names_of, names_under};
+ghost use Rattle.pr_trace.specs.TraceText.{names_of, names_under};
 ghost use Rattle.pr_commands.specs.EndsText.{bound_line, end_part, end_parts, ends_line, ends_text, found_text, last_line, sought_text};
 
 use crate::witness_text::{name_at, put_certified};

@@ -8,9 +8,9 @@ ghost use Rattle.pr_commands.specs.FaultText.{args_fault, exit_status_of, fault_
 ghost use Rattle.pr_commands.specs.inside.FaultRows.{row_words};
 
 use pr_output::{Token, WriteFault, put_line};
-use pr_report::TraceError;
 use pr_roles::Word;
 use pr_text::{ReadError, Which};
+use pr_trace::TraceError;
 use std::alloc::{AllocError, AllocFailed};
 use std::io;
 use std::io::Write;

@@ -4,11 +4,11 @@ ghost use Rattle.std.specs.Prelude.{◌≡◌, ◌≤◌, IfOk, IfSome, length, 
 ghost use Rattle.std.specs.List.{All};
 ghost use Rattle.pr_cdb.specs.declared.codes.TheConstants.{MOST_NEXUSES};
 ghost use Rattle.pr_world.specs.Replays.{IsThere};
-ghost use Rattle.pr_report.specs.TraceText.{names_of};
+ghost use Rattle.pr_trace.specs.TraceText.{names_of};
 ghost use Rattle.pr_commands.specs.Steps.{asked_of, front_of, has_ending, is_reset_step, step_in, steps_of, texts_of};
 
-use pr_report::number_of;
 use pr_roles::{How, Nexus, Step};
+use pr_trace::number_of;
 use std::alloc::{AllocError, Global};
 
 /// What the words ask for: the turn of a nexus, `a`, and from version 2 on `a:busy`, `a:full` and a reset, `:reset`. There are

@@ -5,7 +5,7 @@ ghost use Rattle.std.specs.Fmt.{decimal};
 ghost use Rattle.pr_text.specs.declared.text.TheConstants.{MOST_BYTES};
 ghost use Rattle.pr_text.specs.BytesRead.{LosesUpTo};
 ghost use Rattle.pr_output.specs.PrintedLines.{line};
-ghost use Rattle.pr_report.specs.TraceText.{names_under};
+ghost use Rattle.pr_trace.specs.TraceText.{names_under};
 ghost use Rattle.pr_output.specs.Written.{Writes};
 ghost use Rattle.pr_commands.specs.Endings.{IsCommandOver, EndsOver};
 ghost use Rattle.pr_commands.specs.Witnesses.{EndsWitness, bound_words, is_breach, search_text};

@@ -1,7 +1,7 @@
 //! A fault of a trace in words.
 
 use pr_output::{WriteFault, put};
-use pr_report::TraceError;
+use pr_trace::TraceError;
 use std::io::Write;
 
 const SYNTAX: &[u8] =

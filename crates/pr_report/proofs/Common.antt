@@ -1,38 +1,18 @@
 -- The names that most proofs of this crate cite, passed on from one place. Declares nothing.
-pub use Rattle.std.proofs.Common.{◌≡◌, ℕ, zero, suc, ◌+◌, ◌-◌, ◌*◌, ◌/◌, ◌%◌, ◌<◌, ◌≤◌, Bool, true, false, cond, ◌&&◌, List, [], ◌∷◌, ◌++◌, map, length, get_or, take, drop, IfSome, if◌then◌else◌, nat_lt, nat_le, ◌==◌, slice_get, slice_index, Some, None, Ok, Err, codes, decimal, All, filter, Option, Result, position, flat_map, bytes_eq, sym, refl, ap, ◌∙◌, subst, inl, inr, append_assoc, append-nil, add-one, arith, length-append, length-drop, drop_of_length-le, length-take, drop-cons, ne_eqb}
-pub use Rattle.std.specs.Fmt.{digit_glyph, digits_onto}
-unfoldable pub use Rattle.std.specs.Fmt.{digits}
-pub use Rattle.std.specs.Io.KnownBytes.{prepend_known, Keeps, Appends}
-pub use Rattle.std.specs.List.{range_with_len, position_or_len, slice_split}
-pub use Rattle.std.proofs.lemmas.Bool.{cases_lt}
-pub use Rattle.std.proofs.lemmas.Bool.Decides.{nat_tests}
-pub use Rattle.std.proofs.lemmas.List.Splits.{length-slice_split}
-pub use Rattle.std.proofs.lemmas.Slice.Eq.{bytes_eq-Decides}
+pub use Rattle.std.proofs.Common.{◌≡◌, ℕ, ◌+◌, ◌-◌, ◌<◌, ◌≤◌, Bool, false, List, [], ◌∷◌, ◌++◌, map, length, take, drop, slice_get, Some, codes, filter, Option, Result, flat_map, sym, refl, ap, ◌∙◌, subst, append-nil, arith}
+pub use Rattle.std.specs.List.{range_with_len}
 pub use Rattle.pr_sets.specs.Kept.{numbers_of_bits}
-pub use Rattle.pr_cdb.specs.declared.codes.TheConstants.{MOST_NEXUSES, MOST_CDB_LENGTH, PARAMETER_LIST_LENGTH}
 pub use Rattle.pr_registry.specs.declared.held.Held.{Held}
 pub use Rattle.pr_registry.specs.declared.held.Held.TheVariants.{One}
 unfoldable pub use Rattle.pr_roles.specs.Scenarios.{scenario_of}
-pub use Rattle.pr_roles.specs.declared.item.Item.{Item}
 pub use Rattle.pr_roles.specs.declared.parts.Parts.{Parts}
 pub use Rattle.pr_views.specs.Possibilities.{key_at, number_of, count_of_attentions}
 pub use Rattle.pr_views.specs.Rooms.{view_of}
 pub use Rattle.pr_verify.specs.Rooms.{row_of}
-pub use Rattle.pr_audit.specs.Ends.{ending_of}
-pub use Rattle.pr_report.specs.BytesTaken.{bytes_of_lines}
-pub use Rattle.pr_report.specs.EntryWords.{pairs_in}
 pub use Rattle.pr_report.specs.OutlineText.{free_or_key, codes_in, sends_text}
 unfoldable pub use Rattle.pr_report.specs.OutlineText.{registration_line, send_text}
 unfoldable pub use Rattle.pr_output.specs.Printed.{printed_word}
-pub use Rattle.pr_output.specs.PrintedLines.{pairs_or_dash, attentions_word}
-unfoldable pub use Rattle.pr_output.specs.PrintedLines.{joined_by_spaces, line, pairs}
-pub use Rattle.pr_report.specs.TraceReadings.{and_then, later_lines, items_of, trace_in}
-unfoldable pub use Rattle.pr_report.specs.TraceReadings.{lines, words, item_on, is_later}
-pub use Rattle.pr_report.specs.TraceText.{names_in, names_of, name_of, item_lines, held_word, ending_lines}
-unfoldable pub use Rattle.pr_report.specs.TraceText.{first_line, unit_line}
-pub use Rattle.pr_report.specs.Versions.{most_items}
+pub use Rattle.pr_output.specs.PrintedLines.{attentions_word}
+unfoldable pub use Rattle.pr_output.specs.PrintedLines.{joined_by_spaces}
+pub use Rattle.pr_trace.specs.TraceText.{names_in, names_of, name_of, held_word}
 pub use Rattle.pr_output.specs.Written.{Wrote, FallsShort, Puts}
-pub use Rattle.pr_report.specs.inside.LinesAhead.{bytes_held, bytes_left, Takes, Leads}
-pub use Rattle.pr_report.specs.declared.trace_reading.TheConstants.{MOST_LATER_LINES}
-pub use Rattle.pr_report.specs.declared.ahead.TheConstants.{MOST_LINE_BYTES}
-pub use Rattle.pr_script.specs.declared.limits.TheConstants.{MOST_LETTERS}

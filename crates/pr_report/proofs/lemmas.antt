@@ -1,10 +1,3 @@
-pub mod BytesTaken
-pub mod EntryWords
-pub mod FrontsWritten
-pub mod LinesAhead
 pub mod OutlineText
-pub mod TraceLaws
-pub mod TraceReadings
-pub mod TraceText
 pub mod Verdicts
 pub mod WordsWritten

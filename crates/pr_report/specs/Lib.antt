@@ -1,12 +1,4 @@
-pub mod Versions
-pub mod TraceText
-pub mod Traces
 pub mod Verdicts
 pub mod ScenarioWords
 pub mod OutlineText
-pub mod Chain
-pub mod EntryWords
-pub mod BytesTaken
-pub mod TraceReadings
-pub mod TraceLaws
 pub mod inside

@@ -18,7 +18,7 @@ use Rattle.pr_views.specs.Views.{View}
 use Rattle.pr_verify.specs.Tables.{Row, Table}
 use Rattle.pr_output.specs.PrintedLines.{line, key_word, class_word, attentions_word}
 use Rattle.pr_report.specs.ScenarioWords.{command_words, test_words}
-use Rattle.pr_report.specs.TraceText.{name_of, held_word}
+use Rattle.pr_trace.specs.TraceText.{name_of, held_word}
 
 -- the line of these words behind two spaces
 abbrev pub indented_line : List (List ℕ) → List ℕ

@@ -7,7 +7,7 @@ use Rattle.pr_verify.specs.declared.refusal.Refusal.TheVariants.{NoArm, OutOfRol
 use Rattle.pr_report.specs.declared.verdict.Verdict.{Verdict}
 use Rattle.pr_report.specs.declared.verdict.Verdict.TheVariants.{Accepted, Refused, Legal, Illegal}
 use Rattle.pr_output.specs.PrintedLines.{line, class_word}
-use Rattle.pr_report.specs.TraceText.{name_of}
+use Rattle.pr_trace.specs.TraceText.{name_of}
 
 -- that memory was refused says nothing of the script
 abbrev pub IsReason : Refusal → Type 0

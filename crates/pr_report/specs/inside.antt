@@ -1,6 +1,2 @@
-pub mod SevenWords
-pub mod LinesAhead
 pub mod Possible
-pub mod TraceLines
-pub mod FrontsWritten
 pub mod WordsWritten

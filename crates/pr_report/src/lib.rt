@@ -1,28 +1,17 @@
-//! What is reported of a scenario, as lines of text to any writer: the trace of a scenario at work, the verdict on one,
-//! and what is known at the sends of its scripts; and traces read back from any reader.
+//! What is reported of a scenario, as lines of text to any writer: the verdict on one, and what is known at the sends of
+//! its scripts. The trace of a scenario at work is handed on.
 //!
-//! Nothing that is written takes memory: a trace is put together on a page of fixed size, and goes out a page at a
-//! time, and so do the sends of an outline. Of a trace that is read the entries take memory, and nothing else.
+//! Nothing that is written takes memory: the sends of an outline are put together on a page of fixed size, and go out a
+//! page at a time.
 #![tactic(auto)]
 
-mod ahead;
-mod entry_reading;
-mod first_line;
-mod laws;
 mod outline;
-mod page;
-mod status;
-mod trace;
-mod trace_error;
-mod trace_reading;
 mod verdict;
-mod versions;
 
-pub use entry_reading::number_of;
-pub use laws::{traces_of_runs_are_read, written_traces_are_read};
 pub use outline::write_outlines;
 pub use pr_output::WriteFault;
-pub use trace::{held_word, write_trace, write_trace_body};
-pub use trace_error::TraceError;
-pub use trace_reading::read_trace;
+pub use pr_trace::{
+    TraceError, held_word, number_of, read_trace, traces_of_runs_are_read, write_trace,
+    write_trace_body, written_traces_are_read,
+};
 pub use verdict::{Verdict, write_verdict};

@@ -6,13 +6,13 @@ ghost use Rattle.pr_report.specs.inside.WordsWritten.{WritesRefusal};
 ghost use Rattle.pr_output.specs.Written.{Writes};
 ghost use Rattle.pr_output.specs.Printed.{printed_words};
 ghost use Rattle.pr_output.specs.PrintedLines.{class_word, line};
-ghost use Rattle.pr_report.specs.TraceText.{names_of, names_under};
+ghost use Rattle.pr_trace.specs.TraceText.{names_of, names_under};
 ghost use Rattle.pr_report.specs.Verdicts.{IsReason, IsVerdict, is_refusal, no_arm_words, over_budget_words, place_words, reason_words, verdict_text};
 
-use crate::trace::name_of;
 use pr_output::{Token, WriteFault, put_line};
 use pr_roles::{Nexus, Scenario};
 use pr_script::Class;
+use pr_trace::name_of;
 use pr_verify::Refusal;
 use std::io::Write;
 

@@ -9,7 +9,7 @@ use Rattle.pr_roles.specs.Scenarios.{Scenario, Task, Scripted, Planned, task}
 use Rattle.pr_output.specs.PrintedLines.{line, pairs_or_dash}
 use Rattle.pr_report.specs.OutlineText.{indented_line}
 use Rattle.pr_report.specs.ScenarioWords.{test_words}
-use Rattle.pr_report.specs.TraceText.{name_of, names_in}
+use Rattle.pr_trace.specs.TraceText.{name_of, names_in}
 use Rattle.pr_table.specs.Rows.{TableRow, send_row, repeat_row, again_row, leave_row, stop_row, table_rows}
 
 -- the send of this line, with the bytes of its command

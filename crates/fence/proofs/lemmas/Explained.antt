@@ -5,7 +5,7 @@ use Rattle.pr_roles.specs.declared.parts.Parts.{Parts}
 use Rattle.pr_roles.specs.Scenarios.{scenario_of}
 use Rattle.pr_text.specs.Reading.{IsWrittenAs}
 use Rattle.pr_verify.specs.Outlines.{HaveOutlines}
-use Rattle.pr_report.specs.TraceText.{names_in}
+use Rattle.pr_trace.specs.TraceText.{names_in}
 use Rattle.pr_report.specs.Verdicts.{verdict_text}
 use Rattle.pr_report.specs.declared.verdict.Verdict.TheVariants as verdict
 use Rattle.pr_explain.specs.declared.plan.Explanation.{Explanation}

@@ -4,8 +4,8 @@ use Rattle.pr_roles.specs.Scenarios.{scenario_of}
 use Rattle.pr_text.specs.declared.fault.ReadError.TheVariants as input
 use Rattle.pr_text.specs.Texts.{answer_of}
 use Rattle.pr_text.specs.Reading.{IsWrittenAs}
-use Rattle.pr_report.specs.TraceReadings.{trace_of}
-use Rattle.pr_report.specs.TraceText.{names_in}
+use Rattle.pr_trace.specs.TraceReadings.{trace_of}
+use Rattle.pr_trace.specs.TraceText.{names_in}
 use Rattle.pr_words.specs.Tellings.{IsTold}
 use Rattle.fence.specs.declared.traced.Traced.{Traced}
 use Rattle.pr_commands.specs.declared.fault.Fault.{Fault}

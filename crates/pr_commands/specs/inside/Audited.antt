@@ -3,8 +3,8 @@ use Rattle.std.specs.Prelude.{◌≡◌, ℕ, List, Option, IfSome, Result, Ok, 
 use Rattle.pr_roles.specs.declared.item.Item.{Item}
 use Rattle.pr_roles.specs.Scenarios.{scenario_of}
 use Rattle.pr_text.specs.Reading.{IsWrittenAs}
-use Rattle.pr_report.specs.TraceReadings.{trace_of}
-use Rattle.pr_report.specs.TraceText.{names_in}
+use Rattle.pr_trace.specs.TraceReadings.{trace_of}
+use Rattle.pr_trace.specs.TraceText.{names_in}
 use Rattle.pr_report.specs.Verdicts.{IsVerdict}
 use Rattle.pr_commands.specs.declared.audits.Audited.{Audited}
 use Rattle.pr_commands.specs.declared.fault.Fault.{Fault}

@@ -7,7 +7,7 @@ use Rattle.pr_text.specs.Reading.{IsWrittenAs}
 use Rattle.pr_verify.specs.declared.verifying.Refused.{Refused}
 use Rattle.pr_verify.specs.Outlines.{HaveOutlines}
 use Rattle.pr_verify.specs.Verdicts.{IsFirstReason, IsVerdict}
-use Rattle.pr_report.specs.TraceText.{names_in}
+use Rattle.pr_trace.specs.TraceText.{names_in}
 use Rattle.pr_report.specs.Verdicts.{verdict_text}
 use Rattle.pr_report.specs.declared.verdict.Verdict.TheVariants as verdict
 use Rattle.pr_commands.specs.declared.fault.Fault.{Fault}

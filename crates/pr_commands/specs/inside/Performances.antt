@@ -9,7 +9,7 @@ use Rattle.pr_verify.specs.Verdicts.{IsFirstReason}
 use Rattle.pr_shared.specs.declared.run_error.RunError.{RunError}
 use Rattle.pr_shared.specs.declared.run_error.RunError.TheVariants as error
 use Rattle.pr_shared.specs.Outcomes.{IsOutcome}
-use Rattle.pr_report.specs.TraceText.{name_of, names_in}
+use Rattle.pr_trace.specs.TraceText.{name_of, names_in}
 use Rattle.pr_report.specs.Verdicts.{verdict_text}
 use Rattle.pr_report.specs.declared.verdict.Verdict.TheVariants as verdict
 use Rattle.pr_commands.specs.declared.fault.Fault.{Fault}

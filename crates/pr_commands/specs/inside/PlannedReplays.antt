@@ -3,7 +3,7 @@ use Rattle.std.specs.Prelude.{◌≡◌, ℕ, Bool, IsTrue, List, map, Option, I
 use Rattle.std.specs.List.{list_any}
 use Rattle.pr_roles.specs.Scenarios.{scenario_of}
 use Rattle.pr_audit.specs.Ends.{ending_of, is_trapped_end}
-use Rattle.pr_report.specs.TraceText.{names_in, trace_text}
+use Rattle.pr_trace.specs.TraceText.{names_in, trace_text}
 use Rattle.pr_commands.specs.declared.replays.Planned.{Planned}
 use Rattle.pr_commands.specs.declared.fault.Fault.{Fault}
 use Rattle.pr_commands.specs.declared.fault.Fault.TheVariants as fault

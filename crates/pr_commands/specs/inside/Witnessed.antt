@@ -3,7 +3,7 @@ use Rattle.std.specs.Prelude.{ℕ, List, Option, IfSome, Result, Ok, Err}
 use Rattle.pr_roles.specs.declared.parts.Parts.{Parts}
 use Rattle.pr_roles.specs.Scenarios.{scenario_of}
 use Rattle.pr_text.specs.Reading.{IsWrittenAs}
-use Rattle.pr_report.specs.TraceText.{names_under}
+use Rattle.pr_trace.specs.TraceText.{names_under}
 use Rattle.pr_commands.specs.declared.witnesses.Witnessed.{Witnessed}
 use Rattle.pr_commands.specs.declared.witnesses.Witnessed.TheVariants as witnessed
 use Rattle.pr_commands.specs.declared.fault.Fault.{Fault}

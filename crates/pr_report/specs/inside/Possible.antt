@@ -3,7 +3,7 @@ use Rattle.std.specs.Prelude.{ℕ, Bool, if◌then◌else◌, List, [], ◌∷�
 use Rattle.pr_registry.specs.declared.held.Held.{Held}
 use Rattle.pr_views.specs.Views.{View}
 use Rattle.pr_output.specs.PrintedLines.{joined_by_spaces}
-use Rattle.pr_report.specs.TraceText.{held_word}
+use Rattle.pr_trace.specs.TraceText.{held_word}
 use Rattle.pr_report.specs.OutlineText.{possible_of}
 
 -- this word, if what it names is possible

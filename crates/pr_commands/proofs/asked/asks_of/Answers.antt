@@ -6,7 +6,7 @@ use Rattle.std.proofs.lemmas.List.{drop_more, length-replicate, length-set}
 use Rattle.pr_roles.specs.declared.parts.Parts.{Parts}
 use Rattle.pr_roles.specs.Scenarios.{scenario_of, task}
 use Rattle.pr_audit.specs.declared.end.End.{End}
-use Rattle.pr_report.specs.TraceText.{names_in, names_of}
+use Rattle.pr_trace.specs.TraceText.{names_in, names_of}
 use Rattle.pr_explore.specs.Exits.{Exit}
 use Rattle.pr_explore.specs.Together.{exit_in}
 use Rattle.pr_commands.specs.Asked.{ask_of, asks_from, exits_of, has_script, is_free}

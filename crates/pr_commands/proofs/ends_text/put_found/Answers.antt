@@ -3,8 +3,8 @@ use Rattle.std.specs.Prelude.{codes}
 use Rattle.std.specs.Io.KnownBytes.{Appends}
 use Rattle.pr_roles.specs.declared.parts.Parts.{Parts}
 use Rattle.pr_roles.specs.Scenarios.{scenario_of}
-use Rattle.pr_report.specs.TraceText.{names_in, names_of}
-use Rattle.pr_report.proofs.lemmas.TraceText.Lines.{names_of_scenario}
+use Rattle.pr_trace.specs.TraceText.{names_in, names_of}
+use Rattle.pr_trace.proofs.lemmas.TraceText.Lines.{names_of_scenario}
 use Rattle.pr_output.specs.Written.{FallsShort}
 use Rattle.pr_output.proofs.lemmas.Written.Fronts.{front_first, front_then, puts_err, puts_last}
 use Rattle.pr_audit.specs.declared.end.End.{End}

@@ -2,7 +2,7 @@
 use Rattle.std.proofs.Common.{◌≡◌, ℕ, List, get_or, ap, ◌∙◌, subst}
 use Rattle.std.specs.Io.KnownBytes.{Appends}
 use Rattle.pr_audit.specs.declared.end.End.{End}
-use Rattle.pr_report.specs.TraceText.{names_of}
+use Rattle.pr_trace.specs.TraceText.{names_of}
 use Rattle.pr_explore.specs.declared.endings.Together.{Together}
 use Rattle.pr_output.specs.Written.{FallsShort}
 use Rattle.pr_output.proofs.lemmas.Written.Fronts.{flat_map_end, flat_map_from, puts_err, wrote_all, wrote_front, wrote_more}

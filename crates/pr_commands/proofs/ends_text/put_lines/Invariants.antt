@@ -1,7 +1,7 @@
 -- the lines of those before this one
 use Rattle.std.proofs.Common.{drop}
 use Rattle.std.specs.List.{flat_map}
-use Rattle.pr_report.specs.TraceText.{names_of}
+use Rattle.pr_trace.specs.TraceText.{names_of}
 use Rattle.pr_explore.specs.declared.endings.Together.{Together}
 use Rattle.pr_output.specs.Written.{Wrote}
 use Rattle.pr_commands.specs.EndsText.{ends_line}

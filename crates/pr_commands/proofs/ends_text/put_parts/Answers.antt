@@ -3,7 +3,7 @@ use Rattle.std.proofs.Common.{◌≡◌, ℕ, List, Some, length, refl, sym, sub
 use Rattle.std.specs.List.{slice_get}
 use Rattle.std.specs.Io.KnownBytes.{Appends}
 use Rattle.std.proofs.lemmas.Option.{slice_get_read}
-use Rattle.pr_report.specs.TraceText.{name_of, names_of}
+use Rattle.pr_trace.specs.TraceText.{name_of, names_of}
 use Rattle.pr_output.specs.Written.{FallsShort}
 use Rattle.pr_output.proofs.lemmas.Written.Fronts.{puts_err}
 use Rattle.pr_commands.specs.EndsText.{end_part}

@@ -6,9 +6,9 @@ use Rattle.std.proofs.KnownBytes.{Consumes-nil, Consumes-kept}
 use Rattle.pr_roles.specs.Scenarios.{Scenario}
 use Rattle.pr_text.specs.Reading.{IsWrittenAs}
 use Rattle.pr_text.proofs.lemmas.ScenarioRoundTrip.Uniqueness.{written_once}
-use Rattle.pr_report.specs.Versions.{most_items}
-use Rattle.pr_report.specs.BytesTaken.{LosesUpTo, most_of_trace, most_of_any_trace}
-use Rattle.pr_report.proofs.lemmas.LinesAhead.EntriesInFront.{entries_bounded}
+use Rattle.pr_trace.specs.Versions.{most_items}
+use Rattle.pr_trace.specs.BytesTaken.{LosesUpTo, most_of_trace, most_of_any_trace}
+use Rattle.pr_trace.proofs.lemmas.LinesAhead.EntriesInFront.{entries_bounded}
 use Rattle.pr_commands.specs.Audits.{TakesOfTrace}
 
 -- nothing is

@@ -5,7 +5,7 @@ use Rattle.std.specs.Io.KnownBytes.{Keeps}
 use Rattle.pr_roles.specs.Scenarios.{scenario_of}
 use Rattle.pr_text.specs.declared.fault.ReadError.{ReadError}
 use Rattle.pr_output.specs.Written.{FallsShort}
-use Rattle.pr_report.specs.TraceText.{names_in}
+use Rattle.pr_trace.specs.TraceText.{names_in}
 use Rattle.pr_report.specs.Verdicts.{is_refusal, verdict_text}
 use Rattle.pr_commands.specs.declared.audits.Audited.{Audited}
 use Rattle.pr_commands.specs.declared.fault.Fault.{Fault}

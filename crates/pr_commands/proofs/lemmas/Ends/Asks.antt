@@ -4,7 +4,7 @@ use Rattle.std.specs.Prelude.{option_and_then, replicate, slice_index_or, slice_
 use Rattle.std.specs.List.{slice_get}
 use Rattle.pr_roles.specs.Scenarios.{Scenario, task}
 use Rattle.pr_audit.specs.declared.end.End.{End}
-use Rattle.pr_report.specs.TraceText.{names_in}
+use Rattle.pr_trace.specs.TraceText.{names_in}
 use Rattle.pr_explore.specs.Exits.{Exit}
 use Rattle.pr_explore.specs.Together.{exit_in}
 use Rattle.pr_commands.specs.Asked.{ask_of, asks_from, exits_of, has_script, is_free, with_ask}

@@ -12,7 +12,7 @@ use Rattle.pr_roles.proofs.lemmas.Fitting.DistinctLists.{names_of_parts, length_
 use Rattle.pr_text.specs.Reading.{IsWrittenAs}
 use Rattle.pr_world.specs.declared.replaying.Replayed.{Replayed}
 use Rattle.pr_world.specs.Replays.{IsReplayed}
-use Rattle.pr_report.specs.TraceText.{names_in, names_of}
+use Rattle.pr_trace.specs.TraceText.{names_in, names_of}
 use Rattle.pr_commands.proofs.lemmas.Replays.Traces.{replays_are_traced}
 use Rattle.pr_commands.specs.declared.fault.Fault.TheVariants as fault
 use Rattle.pr_commands.specs.Steps.{step_in, steps_of, has_wrong_count}

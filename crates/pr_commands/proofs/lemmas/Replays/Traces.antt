@@ -2,7 +2,7 @@
 use Rattle.std.proofs.Common.{◌≡◌, List, [], ◌∷◌, map, Some, refl, ap, ◌∙◌}
 use Rattle.pr_audit.specs.declared.end.End.{End}
 use Rattle.pr_audit.specs.Ends.{ending_of}
-use Rattle.pr_report.specs.TraceText.{names_in, trace_text}
+use Rattle.pr_trace.specs.TraceText.{names_in, trace_text}
 use Rattle.pr_commands.specs.Replays.{ReplaysAreTraced}
 
 seen_again : (es : List End) → map (λ e. Some e) (map ending_of es) ≡ map (λ e. Some (ending_of e)) es

@@ -22,7 +22,7 @@ use Rattle.pr_world.proofs.lemmas.Workings.Room.{sent_within}
 use Rattle.pr_world.proofs.lemmas.Workings.Reserves.{room_of_nexus}
 use Rattle.pr_shared.specs.declared.outcome.Outcome.{Outcome}
 use Rattle.pr_shared.specs.Outcomes.{IsOutcome}
-use Rattle.pr_report.specs.TraceText.{name_of, names_in, names_of, trace_text}
+use Rattle.pr_trace.specs.TraceText.{name_of, names_in, names_of, trace_text}
 use Rattle.pr_output.specs.Written.{FallsShort}
 use Rattle.pr_commands.specs.declared.fault.Fault.{Fault}
 use Rattle.pr_commands.specs.declared.fault.Fault.TheVariants as fault

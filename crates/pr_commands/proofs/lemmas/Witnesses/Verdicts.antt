@@ -4,7 +4,7 @@ use Rattle.std.specs.Prelude.{IfSome, IsErrAnd}
 use Rattle.std.specs.Io.KnownBytes.{Appends}
 use Rattle.pr_roles.specs.Scenarios.{scenario_of}
 use Rattle.pr_text.specs.Reading.{IsWrittenAs}
-use Rattle.pr_report.specs.TraceText.{names_in}
+use Rattle.pr_trace.specs.TraceText.{names_in}
 use Rattle.pr_output.specs.Written.{FallsShort}
 use Rattle.pr_commands.specs.declared.witnesses.Witnessed.{Witnessed}
 use Rattle.pr_commands.specs.declared.fault.Fault.{Fault}

@@ -4,7 +4,7 @@ use Rattle.std.specs.Prelude.{map}
 use Rattle.std.specs.List.{All}
 use Rattle.std.proofs.lemmas.List.{drop_more}
 use Rattle.pr_world.specs.Replays.{IsThere}
-use Rattle.pr_report.specs.TraceText.{names_of}
+use Rattle.pr_trace.specs.TraceText.{names_of}
 use Rattle.pr_commands.specs.Steps.{steps_of}
 use Rattle.pr_commands.proofs.lemmas.Steps.Words.{onto, named_more, named_none, all_more}
 use Rattle.pr_commands.proofs.steps.steps_of.Goals as goal

@@ -4,7 +4,7 @@ use Rattle.std.specs.Io.KnownBytes.{Appends}
 use Rattle.pr_registry.specs.declared.held.Held.{Held}
 use Rattle.pr_registry.specs.Registrations.{State}
 use Rattle.pr_output.specs.PrintedLines.{line}
-use Rattle.pr_report.specs.TraceText.{held_word, names_of}
+use Rattle.pr_trace.specs.TraceText.{held_word, names_of}
 use Rattle.pr_output.specs.Written.{FallsShort, Puts}
 use Rattle.pr_output.proofs.lemmas.Written.Fronts.{front_first, front_then, puts_err, puts_last}
 use Rattle.pr_commands.specs.WitnessText.{generation_line, pending_lines, start_lines}

@@ -3,7 +3,7 @@ use Rattle.std.specs.FinSet as set
 use Rattle.std.specs.Io.KnownBytes.{Appends}
 use Rattle.pr_registry.specs.Registrations.{State}
 use Rattle.pr_unit.specs.UnitStates.{is_pending}
-use Rattle.pr_report.specs.TraceText.{name_of, names_of}
+use Rattle.pr_trace.specs.TraceText.{name_of, names_of}
 use Rattle.pr_output.specs.Written.{FallsShort}
 use Rattle.pr_output.proofs.lemmas.Written.Fronts.{puts_err}
 use Rattle.pr_commands.specs.WitnessText.{pending_line}

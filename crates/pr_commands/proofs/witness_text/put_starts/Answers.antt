@@ -3,7 +3,7 @@ use Rattle.std.specs.Prelude.{codes}
 use Rattle.std.specs.Io.KnownBytes.{Appends}
 use Rattle.pr_registry.specs.Registrations.{State, key_of}
 use Rattle.pr_output.specs.PrintedLines.{line}
-use Rattle.pr_report.specs.TraceText.{name_of, names_of}
+use Rattle.pr_trace.specs.TraceText.{name_of, names_of}
 use Rattle.pr_output.specs.Written.{FallsShort}
 use Rattle.pr_output.proofs.lemmas.Written.Fronts.{puts_err}
 use Rattle.pr_commands.specs.WitnessText.{start_line, start_word}

@@ -1,10 +1,11 @@
 -- Outlines go out one send after another.
-use Rattle.pr_report.proofs.Common.{◌≡◌, ℕ, ◌+◌, ◌<◌, ◌≤◌, Bool, false, List, [], ◌∷◌, ◌++◌, map, length, get_or, take, drop, slice_get, Some, Ok, Err, codes, filter, Option, Result, sym, refl, ap, ◌∙◌, subst, append-nil, drop_of_length-le, range_with_len, scenario_of, Parts, key_at, view_of, row_of, free_or_key, sends_text, registration_line, send_text, joined_by_spaces, names_in, names_of, name_of, Wrote, FallsShort, Puts}
+use Rattle.pr_report.proofs.Common.{◌≡◌, ℕ, ◌+◌, ◌<◌, ◌≤◌, Bool, false, List, [], ◌∷◌, ◌++◌, map, length, take, drop, slice_get, Some, codes, filter, Option, Result, sym, refl, ap, ◌∙◌, subst, append-nil, range_with_len, scenario_of, Parts, key_at, view_of, row_of, free_or_key, sends_text, registration_line, send_text, joined_by_spaces, names_in, names_of, name_of, Wrote, FallsShort, Puts}
 use Rattle.std.specs.Bool.{OnFalse, OnTrue}
 use Rattle.std.specs.Result.{is_ok}
 use Rattle.std.specs.FinSet as set
 use Rattle.std.specs.Option.{option_map_or}
 use Rattle.std.proofs.lemmas.List.{take_at}
+use Rattle.std.proofs.Common.{get_or, Ok, Err, drop_of_length-le}
 use Rattle.pr_roles.specs.declared.parts.Nexus.{Nexus as NexusPart}
 use Rattle.pr_sets.specs.Numbers.{Numbers}
 use Rattle.pr_sets.specs.declared.view_set.ViewSet.{Ghosts as ViewSet}
@@ -14,9 +15,9 @@ use Rattle.pr_views.specs.Rooms.{contains_at}
 use Rattle.pr_verify.specs.declared.table.Row.{Row as KeptRow}
 use Rattle.pr_verify.specs.Tables.{Table}
 use Rattle.pr_report.specs.OutlineText.{outlines_text}
-use Rattle.pr_report.proofs.lemmas.FrontsWritten.HeldLines.{held_front, held_more}
+use Rattle.pr_trace.proofs.lemmas.FrontsWritten.HeldLines.{held_front, held_more}
 use Rattle.pr_report.proofs.lemmas.WordsWritten.Possibilities.{line_pieces, shown}
-use Rattle.pr_report.proofs.lemmas.TraceText.Lines.{drop_here, names_of_scenario}
+use Rattle.pr_trace.proofs.lemmas.TraceText.Lines.{drop_here, names_of_scenario}
 
 -- the line of a send, and what its view is for this host
 abbrev pub line_and_view : {S : Type 0} {sets : ViewSet S} → ℕ → ℕ × ViewOf S sets → ℕ × View

@@ -5,7 +5,7 @@ use Rattle.pr_verify.specs.declared.refusal.Refusal.{Refusal}
 use Rattle.pr_report.specs.declared.verdict.Verdict.{Verdict}
 use Rattle.pr_report.specs.declared.verdict.Verdict.TheVariants.{Refused}
 use Rattle.pr_report.specs.Verdicts.{reason_words, refused_line, verdict_text}
-use Rattle.pr_report.proofs.lemmas.TraceText.Lines.{names_of_scenario}
+use Rattle.pr_trace.proofs.lemmas.TraceText.Lines.{names_of_scenario}
 
 pub refusal_of_parts : {E : Type 0} (old new : Option (List ℕ)) (p q : Parts) (nexuses : List NexusPart) (refusal : Refusal) (verdict : Verdict) (r : Result (Unit {0}) E)
     → q ≡ p → nexuses ≡ q.nexuses.items → verdict ≡ Refused refusal → Puts old new (refused_line (reason_words (names_of nexuses) refusal)) r

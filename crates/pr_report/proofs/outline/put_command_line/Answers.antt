@@ -1,4 +1,5 @@
-use Rattle.pr_report.proofs.Common.{[], ◌∷◌, codes, decimal, printed_word}
+use Rattle.pr_report.proofs.Common.{[], ◌∷◌, codes, printed_word}
+use Rattle.std.proofs.Common.{decimal}
 use Rattle.pr_report.specs.ScenarioWords.{command_words}
 use Rattle.pr_report.specs.OutlineText.{send_line}
 use Rattle.pr_output.proofs.lemmas.Written.Fronts.{front_first, front_then, puts_err, puts_last}

@@ -1,5 +1,5 @@
 use Rattle.pr_report.proofs.Common.{append-nil, joined_by_spaces}
-use Rattle.pr_report.proofs.lemmas.FrontsWritten.HeldLines.{appends_nothing}
+use Rattle.pr_trace.proofs.lemmas.FrontsWritten.HeldLines.{appends_nothing}
 use Rattle.pr_report.proofs.outline.put_if.Goals as goal
 
 pub returns-then-is_possible : goal.returns-then-is_possible

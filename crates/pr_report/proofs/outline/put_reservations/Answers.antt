@@ -1,5 +1,6 @@
-use Rattle.pr_report.proofs.Common.{Some, None, Option, flat_map, numbers_of_bits, Held, number_of, names_of, held_word}
+use Rattle.pr_report.proofs.Common.{Some, Option, flat_map, numbers_of_bits, Held, number_of, names_of, held_word}
 use Rattle.std.specs.FinSet as set
+use Rattle.std.proofs.Common.{None}
 use Rattle.pr_cdb.specs.declared.command.Kind.{Kind}
 use Rattle.pr_cdb.specs.declared.command.Kind.TheVariants.{WriteExclusiveAllRegistrants, ExclusiveAccessAllRegistrants}
 use Rattle.pr_registry.specs.declared.held.Held.TheVariants.{All}

@@ -4,7 +4,7 @@ use Rattle.std.specs.Prelude.{slice_index_or}
 use Rattle.std.specs.List.{slice_get}
 use Rattle.pr_script.specs.Scripts.{Stmts}
 use Rattle.pr_roles.specs.Scenarios.{Nexus, Scenario, Scripted, nexus, task}
-use Rattle.pr_report.specs.TraceText.{name_of, names_in}
+use Rattle.pr_trace.specs.TraceText.{name_of, names_in}
 use Rattle.pr_table.specs.Rows.{table_rows}
 use Rattle.pr_table.specs.TableText.{host_table_text, table_text, task_table_text}
 

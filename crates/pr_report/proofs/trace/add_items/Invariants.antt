@@ -1,6 +1,0 @@
-use Rattle.pr_report.proofs.Common.{◌++◌, drop, names_of, item_lines, Wrote}
-use Rattle.pr_report.proofs.trace.add_items.Given as goal
-
-abbrev pub invariant-loop-others : goal.invariant-loop-others
-invariant-loop-others g l = Wrote (g.W.Write.contents l.fn.writer) (g.W.Write.contents l.writer)
-    (l.fn.page.items ++ item_lines 0 (names_of l.nexuses) l.history) (l.page.items ++ item_lines l.others (names_of l.nexuses) (drop l.others l.history))

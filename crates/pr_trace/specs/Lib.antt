@@ -1,0 +1,9 @@
+pub mod Versions
+pub mod TraceText
+pub mod Traces
+pub mod Chain
+pub mod EntryWords
+pub mod BytesTaken
+pub mod TraceReadings
+pub mod TraceLaws
+pub mod inside

@@ -1,0 +1,5 @@
+pub mod SevenWords
+pub mod LinesAhead
+pub mod TraceLines
+pub mod FrontsWritten
+pub mod WordsWritten
