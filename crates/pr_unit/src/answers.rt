@@ -91,7 +91,24 @@ pub(crate) fn perform(
         ≡ effect (unit_of registry.old pendings.old) host command }
 {
     let bytes = data(registry, command);
+    take_effect(registry, pendings, host, command);
+    reply::good(bytes)
+}
+
+/// Makes the unit's parts what a command makes of them that ends GOOD.
+pub(crate) fn take_effect(
+    registry: &mut Registry,
+    pendings: &mut [Pending; MOST_NEXUSES],
+    host: u8,
+    command: Command,
+)
+    requires there { host < registry.old.hosts }
+    requires well_formed { IsWellFormed registry.old }
+    requires free { command_conflicts registry.old host command ≡ false }
+    requires whole { command_fault registry.old host command ≡ None }
+    ensures { unit_of registry.new pendings.new
+        ≡ effect (unit_of registry.old pendings.old) host command }
+{
     let change = apply(registry, host, command);
     pending_table::tell_change(pendings, &change);
-    reply::good(bytes)
 }

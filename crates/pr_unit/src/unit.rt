@@ -1,19 +1,19 @@
 //! The logical unit.
 
-ghost use Rattle.std.specs.Prelude.{◌≡◌, ◌<◌, ◌≤◌, ◌↔◌, ℕ, true, IsTrue, IsSome, IfSome, length};
+ghost use Rattle.std.specs.Prelude.{◌≡◌, ◌<◌, ◌≤◌, ◌↔◌, ℕ, true, false, None, IsTrue, IsSome, IfSome, length};
 ghost use Rattle.std.specs.FinSet as set;
 ghost use Rattle.pr_cdb.specs.Requests.{request_of_wire};
 ghost use Rattle.pr_attention.specs.Attentions.{AreAttentions, is_attention, no_code};
 ghost use Rattle.pr_unit.specs.Attentions.{place, table_pairs};
 
-use crate::answers::answer;
+use crate::answers::{answer, take_effect};
 use crate::conflicts::command_conflicts;
 use crate::decision::{decide, ends_good};
 use crate::follows::follow;
 use crate::pending_table;
 use pr_attention::{Attention, Pending};
 use pr_cdb::codes::MOST_NEXUSES;
-use pr_cdb::{Bad, Command, Reply, Request, Wire, decode};
+use pr_cdb::{Bad, Command, Reply, Request, Wire, decode, in_range};
 use pr_registry::Registry;
 use std::array;
 use std::marker::Model;
@@ -46,9 +46,10 @@ impl Unit {
     ghost use Rattle.pr_registry.specs.Registrations.{empty_registry};
     ghost use Rattle.pr_cdb.specs.declared.wire.Request.TheVariants.{Plain};
     ghost use Rattle.pr_cdb.specs.declared.reply.Reply.{Reply};
-    ghost use Rattle.pr_unit.specs.UnitStates.{UnitState, IsWellFormed, unit_of, is_pending, quiet_unit, reset};
+    ghost use Rattle.pr_unit.specs.UnitStates.{UnitState, IsWellFormed, unit_of, is_pending, effect, quiet_unit, reset};
     ghost use Rattle.pr_unit.specs.Replies.{is_good};
     ghost use Rattle.pr_unit.specs.Conflicts.{command_conflicts};
+    ghost use Rattle.pr_unit.specs.Faults.{command_fault};
     ghost use Rattle.pr_unit.specs.Steps.{Step, decision};
     ghost use Rattle.pr_unit.specs.TakenSteps.{Executes, ends_good};
     ghost use Rattle.pr_unit.specs.Follows.{Follows};
@@ -144,6 +145,17 @@ impl Unit {
     {
         let request = decode(&wire.cdb, &wire.params)?;
         Ok(answer(&mut self.registry, &mut self.pending, host, request))
+    }
+
+    /// Has the command of the host take effect, as where it ends GOOD. What is pending for the host stays.
+    pub fn take_effect(&mut self, host: u8, command: &Command)
+        requires there { host < self.old.registry.hosts }
+        requires free { command_conflicts self.old.registry host command.now ≡ false }
+        requires whole { command_fault self.old.registry host command.now ≡ None }
+        ensures { self.new ≡ effect self.old host command.now }
+    {
+        in_range(*command);
+        take_effect(&mut self.registry, &mut self.pending, host, *command);
     }
 
     /// Whether the unit may answer the command of the host with just this reply, whichever attention it
