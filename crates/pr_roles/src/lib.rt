@@ -33,7 +33,7 @@ pub use laws::{
 };
 pub use nexus::nexus_in;
 pub use parts::{Nexus, Parts, Start, Task};
-pub use permitting::{is_always_permitted, names, permits};
+pub use permitting::{clause_permits, is_always_permitted, names, permits};
 pub use pr_script::Word;
 pub use role::{Action, Clause, Condition, Role};
 pub use scenario::{Scenario, first_start};

@@ -42,7 +42,8 @@ fn is_permitted_by(clauses: &[Clause], registry: &Registry, host: u8, command: C
         .any(|clause| clause_permits(*clause, registry, host, command))
 }
 
-fn clause_permits(clause: Clause, registry: &Registry, host: u8, command: Command) -> bool
+/// Whether the clause permits this command of the host: its action names it, and its condition holds.
+pub fn clause_permits(clause: Clause, registry: &Registry, host: u8, command: Command) -> bool
     requires { host < registry.now.hosts }
     ensures { result ≡ clause_permits clause registry.now host command }
 {
