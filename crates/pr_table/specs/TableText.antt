@@ -1,5 +1,5 @@
 -- Agrees with docs/FORMATS.md, 'Table text'.
--- The text of a table: its first line, whose script it is with its budget, and each row, with a line for each arm of a send.
+-- The text of a table: its version, whose script it is with its budget, and each row, with a line for each arm of a send.
 use Rattle.std.specs.Prelude.{ℕ, ◌+◌, List, [], ◌∷◌, ◌++◌, codes, decimal, Option, None, Some}
 use Rattle.std.specs.List.{flat_map}
 use Rattle.pr_cdb.specs.declared.wire.Wire.{Wire}
@@ -33,17 +33,21 @@ abbrev pub rows_text : ℕ → List TableRow → List ℕ
 rows_text at [] = []
 rows_text at (row ∷ rows) = row_text at row ++ rows_text (at + 1) rows
 
+-- a table has the version of its scenario
+unfoldable pub version_line : ℕ → List ℕ
+version_line version = line (codes "fence-table") (decimal version ∷ [])
+
 unfoldable pub host_line : List ℕ → ℕ → List ℕ
 host_line name budget = line (codes "host") (name ∷ codes "budget" ∷ decimal budget ∷ [])
 
-abbrev pub table_text : List ℕ → ℕ → List TableRow → List ℕ
-table_text name budget rows = codes "fence-table 1\n" ++ (host_line name budget ++ rows_text 1 rows)
+abbrev pub table_text : ℕ → List ℕ → ℕ → List TableRow → List ℕ
+table_text version name budget rows = version_line version ++ (host_line name budget ++ rows_text 1 rows)
 
 -- of the task of a nexus of this name; a guest has no table
-abbrev pub task_table_text : List ℕ → Option Task → List ℕ
-task_table_text name None = []
-task_table_text name (Some (Scripted b budget)) = table_text name budget (table_rows b)
-task_table_text name (Some (Planned commands)) = []
+abbrev pub task_table_text : ℕ → List ℕ → Option Task → List ℕ
+task_table_text version name None = []
+task_table_text version name (Some (Scripted b budget)) = table_text version name budget (table_rows b)
+task_table_text version name (Some (Planned commands)) = []
 
 abbrev pub host_table_text : Scenario → ℕ → List ℕ
-host_table_text s h = task_table_text (name_of (names_in s) h) (task s h)
+host_table_text s h = task_table_text s.version (name_of (names_in s) h) (task s h)

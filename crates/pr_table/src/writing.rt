@@ -11,7 +11,7 @@ ghost use Rattle.pr_output.specs.Printed.{printed_words};
 ghost use Rattle.pr_output.specs.Written.{Writes};
 ghost use Rattle.pr_report.specs.OutlineText.{indented_line};
 ghost use Rattle.pr_table.specs.Rows.{again_row, arm_rows, first_row, leave_row, repeat_row, row_count, row_count_of_all, row_count_of_arms, rows_of, rows_of_all, rows_of_arms, send_row, stop_row, table_rows};
-ghost use Rattle.pr_table.specs.TableText.{arm_line, host_line, host_table_text, row_text, rows_text, send_line, table_text};
+ghost use Rattle.pr_table.specs.TableText.{arm_line, host_line, host_table_text, row_text, rows_text, send_line, table_text, version_line};
 ghost use Rattle.pr_table.specs.declared.counts.TheConstants.{MOST_ROWS};
 
 use crate::counts::{row_count, row_count_of_all};
@@ -21,8 +21,8 @@ use pr_roles::{Scenario, Task, nexus_in};
 use pr_script::{Arm, Class, Script, Statement, Test};
 use std::io::Write;
 
-/// Writes the table of a host's script: a row for each of its statements, with the command's bytes where that is a send, and the row
-/// that follows each of its arms. On a fault, what went out is a front of it, and not all.
+/// Writes the table of a host's script: the scenario's version, and a row for each statement, with the command's bytes where that is a
+/// send, and the row that follows each of its arms. On a fault, what went out is a front of it, and not all.
 pub fn write_table<W: Write>(
     writer: &mut W,
     scenario: &Scenario,
@@ -31,10 +31,12 @@ pub fn write_table<W: Write>(
     requires { IsScripted (task (scenario_of scenario.now) host) }
     ensures { Writes W.Write writer (host_table_text (scenario_of scenario.now) host) result }
 {
+    let version = scenario.parts().version;
     let nexus = nexus_in(scenario, host);
     match &nexus.task {
         Task::Scripted { script, budget } => {
-            put_table(writer, nexus.name.as_str().as_bytes(), script, *budget)
+            let name = nexus.name.as_str().as_bytes();
+            put_table(writer, version, name, script, *budget)
         }
         Task::Planned(_) => unreachable!(),
     }
@@ -42,17 +44,29 @@ pub fn write_table<W: Write>(
 
 fn put_table<W: Write>(
     writer: &mut W,
+    version: u8,
     name: &[u8],
     script: &Script,
     budget: u32,
 ) -> Result<(), WriteFault>
     requires { row_count_of_all (script_of script.now) ≤ MOST_ROWS }
-    ensures { Writes W.Write writer (table_text name.now budget
+    ensures { Writes W.Write writer (table_text version name.now budget
         (table_rows (script_of script.now))) result }
 {
-    put(writer, b"fence-table 1\n")?;
+    put_version(writer, version)?;
     put_host(writer, name, budget)?;
     put_script(writer, script)
+}
+
+#[tactic(auto, unfolding(pr_output::specs::Printed::printed_word, crate::specs::TableText::version_line))]
+fn put_version<W: Write>(writer: &mut W, version: u8) -> Result<(), WriteFault>
+    ensures { Writes W.Write writer (version_line version) result }
+{
+    put_line(
+        writer,
+        Token::Text(b"fence-table"),
+        &[Token::Number(u64::from(version))],
+    )
 }
 
 #[tactic(auto, unfolding(pr_output::specs::Printed::printed_word, crate::specs::TableText::host_line))]

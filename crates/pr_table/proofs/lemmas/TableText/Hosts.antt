@@ -1,9 +1,10 @@
--- The table of a host that has a script.
-use Rattle.std.proofs.Common.{◌≡◌, ℕ, zero, suc, List, [], ◌∷◌, map, Some, None, ap, ◌∙◌}
+-- The table of a host that has a script, and its version.
+use Rattle.std.proofs.Common.{◌≡◌, ℕ, zero, suc, List, [], ◌∷◌, map, Some, None, refl, ap, ◌∙◌}
 use Rattle.std.specs.Prelude.{slice_index_or}
 use Rattle.std.specs.List.{slice_get}
 use Rattle.pr_script.specs.Scripts.{Stmts}
-use Rattle.pr_roles.specs.Scenarios.{Nexus, Scenario, Scripted, nexus, task}
+use Rattle.pr_roles.specs.declared.parts.Parts.{Parts}
+use Rattle.pr_roles.specs.Scenarios.{Nexus, Scenario, Scripted, nexus, scenario_of, task}
 use Rattle.pr_trace.specs.TraceText.{name_of, names_in}
 use Rattle.pr_table.specs.Rows.{table_rows}
 use Rattle.pr_table.specs.TableText.{host_table_text, table_text, task_table_text}
@@ -14,6 +15,12 @@ named (n ∷ ns) zero m is = let same : n ≡ m = cc in ap (λ k. k.name) same
 named (n ∷ ns) (suc h) m is = named ns h m is
 
 pub scripted_text : (s : Scenario) (h : ℕ) (m : Nexus) (b : Stmts) (budget : ℕ) → nexus s h ≡ Some m → task s h ≡ Some (Scripted b budget)
-    → host_table_text s h ≡ table_text m.name budget (table_rows b)
+    → host_table_text s h ≡ table_text s.version m.name budget (table_rows b)
 scripted_text s h m b budget there scripted =
-    ap (task_table_text (name_of (names_in s) h)) scripted ∙ ap (λ name. table_text name budget (table_rows b)) (named s.nexuses h m there)
+    ap (task_table_text s.version (name_of (names_in s) h)) scripted
+    ∙ ap (λ name. table_text s.version name budget (table_rows b)) (named s.nexuses h m there)
+
+-- a scenario has the version of its parts
+pub version_of_parts : (p : Parts) → p.version ≡ (scenario_of p).version
+unfolding scenario_of
+version_of_parts p = refl

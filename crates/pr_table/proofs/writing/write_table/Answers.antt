@@ -1,13 +1,14 @@
--- The script of a scenario fits, so that it has few rows; and it is the host's.
-use Rattle.std.proofs.Common.{ℕ, List, ◌∙◌, subst}
+-- The script of a scenario fits, so that it has few rows; it is the host's, and the version is the scenario's.
+use Rattle.std.proofs.Common.{◌≡◌, ℕ, List, ap, ◌∙◌, subst}
 use Rattle.pr_script.specs.Trees.{script_of}
+use Rattle.pr_roles.specs.declared.parts.Parts.{Parts}
 use Rattle.pr_roles.specs.Scenarios.{nexus_of, scenario_of}
 use Rattle.pr_output.specs.Written.{Puts}
 use Rattle.pr_roles.proofs.lemmas.Scenarios.Nexuses.{scripted_fits, scripted_task}
 use Rattle.pr_table.specs.Rows.{table_rows}
 use Rattle.pr_table.specs.TableText.{table_text}
 use Rattle.pr_table.proofs.lemmas.Rows.Counts.{few_rows}
-use Rattle.pr_table.proofs.lemmas.TableText.Hosts.{scripted_text}
+use Rattle.pr_table.proofs.lemmas.TableText.Hosts.{scripted_text, version_of_parts}
 use Rattle.pr_table.proofs.lemmas.TableText.Lines.{puts_as}
 use Rattle.pr_table.proofs.writing.write_table.Goals as goal
 
@@ -24,6 +25,8 @@ returns g c =
     let b = script_of c.in-Scripted.script in
     let found = c.nexus_in-nexus.ensures.nexus in
     let scripted = scripted_task s c.args.host n found c.in-Scripted.script c.in-Scripted.budget c.in-Scripted.is in
-    let name = c.as_bytes.ensures.value ∙ c.as_str.ensures.value in
-    let puts = subst (λ (x : List ℕ). Puts (g.W.Write.contents c.args.writer.now) (g.W.Write.contents c.put_table.new.writer) (table_text x c.in-Scripted.budget (table_rows b)) c.put_table.result) name c.put_table.ensures in
+    let name = c.as_bytes-name.ensures.value ∙ c.as_str.ensures.value in
+    let version : c.parts.result.now.version ≡ s.version = ap (λ (p : Parts). p.version) c.parts.ensures.value ∙ version_of_parts c.args.scenario.now in
+    let dated = subst (λ (v : ℕ). Puts (g.W.Write.contents c.args.writer.now) (g.W.Write.contents c.put_table.new.writer) (table_text v c.as_bytes-name.result.now c.in-Scripted.budget (table_rows b)) c.put_table.result) version c.put_table.ensures in
+    let puts = subst (λ (x : List ℕ). Puts (g.W.Write.contents c.args.writer.now) (g.W.Write.contents c.put_table.new.writer) (table_text s.version x c.in-Scripted.budget (table_rows b)) c.put_table.result) name dated in
     puts_as _ _ _ _ _ (scripted_text s c.args.host (nexus_of n) b c.in-Scripted.budget found scripted) puts
