@@ -1,6 +1,7 @@
 -- Where a place leads.
 use Rattle.pr_script.proofs.Common.{◌≡◌, ℕ, ◌-◌, ◌<◌, ◌≤◌, List, [], ◌∷◌, ◌++◌, length, get_or, Some, None, Option, sym, refl, ap, ◌∙◌, subst, arith, repeats, statement, mark, Configuration, before, turn, past_mark, becomes, LoopFrame, MOST_OPEN, Instruction, place, IsStep, open_configuration, configuration, deepest, AreLoops, IsPlaced, meanings}
 use Rattle.std.proofs.Common.{rules, IfNone}
+use Rattle.std.proofs.lemmas.List.{nil_from_length}
 use Rattle.pr_script.specs.declared.rows.Operation.TheVariants.{Repeat, Break}
 use Rattle.pr_script.specs.inside.Advances.{Leads}
 use Rattle.pr_script.proofs.lemmas.Program.Places.{the_row, configuration-step, configuration-zero, opened-push}
@@ -9,10 +10,6 @@ use Rattle.pr_script.proofs.lemmas.Program.OpenRepeats.{opens_less, open_count-c
 pub if_none : {A : Type 0} {P : Type 0} (o : Option A) → P → IfNone o P
 if_none None p = p
 if_none (Some x) p = search rules
-
-no_items : {A : Type 0} (xs : List A) → (0 < length xs → ⊥) → xs ≡ []
-no_items [] h = refl
-no_items (x ∷ xs) h = absurd (h (omega arith))
 
 leads_alike : (l l' m m' : Configuration) → l' ≡ l → m' ≡ m → Leads l m → Leads l' m'
 leads_alike l l' m m' old new leads = subst (λ k. Leads k m') (sym old) (subst (Leads l) (sym new) leads)
@@ -32,7 +29,7 @@ placed_on rows at to opens next placed leads within = record {
 pub end_rests : (rows : List Instruction) (at : ℕ) (opens : List LoopFrame) → at ≡ 0 → (0 < length opens → ⊥)
     → becomes (configuration (meanings rows) at opens) ≡ configuration (meanings rows) at opens
 end_rests rows at opens ends empty =
-    let nothing = configuration-zero rows at opens ends ∙ ap (open_configuration (meanings rows)) (no_items opens empty) in
+    let nothing = configuration-zero rows at opens ends ∙ ap (open_configuration (meanings rows)) (nil_from_length opens (omega arith)) in
     subst (λ l. becomes l ≡ l) (sym nothing) refl
 
 popped : (rows : List Instruction) (at : ℕ) (opens os : List LoopFrame) (o : LoopFrame) → at ≡ 0 → opens ≡ os ++ o ∷ []

@@ -1,6 +1,6 @@
 -- How a table grows by rows.
 use Rattle.pr_script.proofs.Common.{◌≡◌, ℕ, suc, ◌+◌, ◌-◌, ◌<◌, ◌≤◌, List, [], ◌∷◌, ◌++◌, length, get_or, take, drop, Vec, Global, sym, refl, ap, ◌∙◌, subst, inl, inr, arith, Command, depth_of_all, Stmt, sends, repeats, Stmts, none, more, Arms, no_arm, arm, before, statement_of, statements_in, script_of, MOST_OPEN, Instruction, Operation, Arm, Statement, arms_in, IsCompiled, AreArmsCompiled, place, step_at, IsStep, IsTable, configuration, deepest, IsPlaced, meanings}
-use Rattle.std.proofs.Common.{add-one, drop-cons}
+use Rattle.std.proofs.Common.{add-one, drop-cons, one-add}
 use Rattle.std.proofs.lemmas.List.{length-append}
 use Rattle.std.proofs.Math.ListN.{get_or-append}
 use Rattle.std.proofs.Math.Seq.{get_or-append_seam}
@@ -25,10 +25,7 @@ size-joined (more s b) e = omega (arith, size-joined b e)
 
 front-joined : (b e : Stmts) → first_statements (size b) (concatenation b e) ≡ b
 front-joined none e = refl
-front-joined (more s b) e = ap (λ n. first_statements n (more s (concatenation b e))) (one_more (size b)) ∙ ap (more s) (front-joined b e)
-  where
-    one_more : (n : ℕ) → 1 + n ≡ suc n
-    one_more n = omega arith
+front-joined (more s b) e = ap (λ n. first_statements n (more s (concatenation b e))) (one-add (size b)) ∙ ap (more s) (front-joined b e)
 
 without_end-joined : (b e : Stmts) → without_end (concatenation b e) e ≡ b
 without_end-joined b e =

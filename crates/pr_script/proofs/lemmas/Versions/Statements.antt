@@ -1,27 +1,20 @@
 -- One more statement, or arm, of those that are looked at one after another.
 use Rattle.pr_script.proofs.Common.{◌≡◌, ℕ, ◌+◌, ◌<◌, Bool, true, false, ◌&&◌, List, [], ◌∷◌, ◌++◌, length, get_or, take, drop, is_some, nat_lt, Some, None, Option, sym, refl, ap, ◌∙◌, arith, Command, statement_fits, statements_fit, arms_fit, count_in_arms, lines_of_all, lines_of_arms, statement_of, statements_in, script_of, are_arms_of, Arm, Statement, arms_in, last_of_climb}
 use Rattle.std.specs.Prelude.{nat_le, cond}
-use Rattle.std.proofs.lemmas.List.{take-append-drop}
+use Rattle.std.proofs.lemmas.List.{take-append-drop, append_assoc, append-nil}
+use Rattle.std.proofs.Math.Bool.{and_assoc, and-true}
 use Rattle.pr_script.specs.Grammar.{test_fits, count_of_arms, count_of, count_of_all, lines_of, rise_above}
 use Rattle.pr_script.specs.Versions.{since, is_statement_of, is_script_of}
 use Rattle.pr_script.proofs.lemmas.Trees.ListTails.{taken}
 
 -- ---- the grammar
 
-and-assoc : (a b c : Bool) → (a && b && c) ≡ (a && (b && c))
-and-assoc true b c = refl
-and-assoc false b c = refl
-
-and-true : (a : Bool) → (a && true) ≡ a
-and-true true = refl
-and-true false = refl
-
 fit-append : (keys : List ℕ) (r s : ℕ) (xs : List Statement) (x : Statement)
     → statements_fit keys r s (statements_in (xs ++ x ∷ [])) ≡ (statements_fit keys r s (statements_in xs) && statement_fits keys r s (statement_of x))
 fit-append keys r s [] x = and-true (statement_fits keys r s (statement_of x))
 fit-append keys r s (y ∷ ys) x =
     ap (λ b. statement_fits keys r s (statement_of y) && b) (fit-append keys r s ys x)
-    ∙ sym (and-assoc (statement_fits keys r s (statement_of y)) (statements_fit keys r s (statements_in ys)) (statement_fits keys r s (statement_of x)))
+    ∙ sym (and_assoc (statement_fits keys r s (statement_of y)) (statements_fit keys r s (statements_in ys)) (statement_fits keys r s (statement_of x)))
 
 pub fit_taken : (keys : List ℕ) (r s : ℕ) (xs : List Statement) (i : ℕ) (x : Statement) → i < length xs → x ≡ get_or xs i x
     → statements_fit keys r s (statements_in (take (i + 1) xs)) ≡ (statements_fit keys r s (statements_in (take i xs)) && statement_fits keys r s (statement_of x))
@@ -36,7 +29,7 @@ arms-append : (keys : List ℕ) (r s : ℕ) (c : Command) (xs : List Arm) (x : A
 arms-append keys r s c [] x = and-true (arm_of_fits keys r s c x)
 arms-append keys r s c (y ∷ ys) x =
     ap (λ b. arm_of_fits keys r s c y && b) (arms-append keys r s c ys x)
-    ∙ sym (and-assoc (arm_of_fits keys r s c y) (arms_fit keys r s c (arms_in ys)) (arm_of_fits keys r s c x))
+    ∙ sym (and_assoc (arm_of_fits keys r s c y) (arms_fit keys r s c (arms_in ys)) (arm_of_fits keys r s c x))
 
 pub arms_taken : (keys : List ℕ) (r s : ℕ) (c : Command) (xs : List Arm) (i : ℕ) (x : Arm) → i < length xs → x ≡ get_or xs i x
     → arms_fit keys r s c (arms_in (take (i + 1) xs)) ≡ (arms_fit keys r s c (arms_in (take i xs)) && arm_of_fits keys r s c x)
@@ -54,7 +47,7 @@ dated-append : (version : ℕ) (xs : List Statement) (x : Statement)
 dated-append version [] x = and-true (is_statement_of version (statement_of x))
 dated-append version (y ∷ ys) x =
     ap (λ b. is_statement_of version (statement_of y) && b) (dated-append version ys x)
-    ∙ sym (and-assoc (is_statement_of version (statement_of y)) (is_script_of version (statements_in ys)) (is_statement_of version (statement_of x)))
+    ∙ sym (and_assoc (is_statement_of version (statement_of y)) (is_script_of version (statements_in ys)) (is_statement_of version (statement_of x)))
 
 pub dated_taken : (version : ℕ) (xs : List Statement) (i : ℕ) (x : Statement) → i < length xs → x ≡ get_or xs i x
     → is_script_of version (statements_in (take (i + 1) xs)) ≡ (is_script_of version (statements_in (take i xs)) && is_statement_of version (statement_of x))
@@ -69,7 +62,7 @@ arms-dated-append : (version : ℕ) (xs : List Arm) (x : Arm)
 arms-dated-append version [] x = and-true (is_arm_of version x)
 arms-dated-append version (y ∷ ys) x =
     ap (λ b. is_arm_of version y && b) (arms-dated-append version ys x)
-    ∙ sym (and-assoc (is_arm_of version y) (are_arms_of version (arms_in ys)) (is_arm_of version x))
+    ∙ sym (and_assoc (is_arm_of version y) (are_arms_of version (arms_in ys)) (is_arm_of version x))
 
 pub arms_dated_taken : (version : ℕ) (xs : List Arm) (i : ℕ) (x : Arm) → i < length xs → x ≡ get_or xs i x
     → are_arms_of version (arms_in (take (i + 1) xs)) ≡ (are_arms_of version (arms_in (take i xs)) && is_arm_of version x)
@@ -124,39 +117,31 @@ risen n (next ∷ xs) = risen-test (nat_lt n next) next xs (risen next xs)
 pub climbed_above : (n next : ℕ) (xs : List ℕ) → nat_lt n next ≡ true → last_of_climb n (next ∷ xs) ≡ last_of_climb next xs
 climbed_above n next xs above = ap (λ b. cond b (last_of_climb next xs) None) above
 
-append-assoc : (xs ys zs : List ℕ) → (xs ++ ys) ++ zs ≡ xs ++ (ys ++ zs)
-append-assoc [] ys zs = refl
-append-assoc (x ∷ xs) ys zs = ap (λ l. x ∷ l) (append-assoc xs ys zs)
-
-append-none : (xs : List ℕ) → xs ++ [] ≡ xs
-append-none [] = refl
-append-none (x ∷ xs) = ap (λ l. x ∷ l) (append-none xs)
-
 lines-append : (xs ys : List Statement)
     → lines_of_all (statements_in (xs ++ ys)) ≡ lines_of_all (statements_in xs) ++ lines_of_all (statements_in ys)
 lines-append [] ys = refl
 lines-append (x ∷ xs) ys =
     ap (λ l. lines_of (statement_of x) ++ l) (lines-append xs ys)
-    ∙ sym (append-assoc (lines_of (statement_of x)) (lines_of_all (statements_in xs)) (lines_of_all (statements_in ys)))
+    ∙ sym (append_assoc (lines_of (statement_of x)) (lines_of_all (statements_in xs)) (lines_of_all (statements_in ys)))
 
 arm-lines-append : (xs ys : List Arm) → lines_of_arms (arms_in (xs ++ ys)) ≡ lines_of_arms (arms_in xs) ++ lines_of_arms (arms_in ys)
 arm-lines-append [] ys = refl
 arm-lines-append (x ∷ xs) ys =
     ap (λ l. lines_of_all (script_of x.body) ++ l) (arm-lines-append xs ys)
-    ∙ sym (append-assoc (lines_of_all (script_of x.body)) (lines_of_arms (arms_in xs)) (lines_of_arms (arms_in ys)))
+    ∙ sym (append_assoc (lines_of_all (script_of x.body)) (lines_of_arms (arms_in xs)) (lines_of_arms (arms_in ys)))
 
 pub lines_taken : (n : ℕ) (xs : List Statement) (i : ℕ) (x : Statement) → i < length xs → x ≡ get_or xs i x
     → last_of_climb n (lines_of_all (statements_in (take (i + 1) xs))) ≡ then (last_of_climb n (lines_of_all (statements_in (take i xs)))) (lines_of (statement_of x))
 lines_taken n xs i x within is =
     ap (λ ys. last_of_climb n (lines_of_all (statements_in ys))) (taken xs i x within is)
-    ∙ (ap (last_of_climb n) (lines-append (take i xs) (x ∷ []) ∙ ap (λ l. lines_of_all (statements_in (take i xs)) ++ l) (append-none (lines_of (statement_of x))))
+    ∙ (ap (last_of_climb n) (lines-append (take i xs) (x ∷ []) ∙ ap (λ l. lines_of_all (statements_in (take i xs)) ++ l) (append-nil (lines_of (statement_of x))))
     ∙ climbed_on n (lines_of_all (statements_in (take i xs))) (lines_of (statement_of x)))
 
 pub arm_lines_taken : (n : ℕ) (xs : List Arm) (i : ℕ) (x : Arm) → i < length xs → x ≡ get_or xs i x
     → last_of_climb n (lines_of_arms (arms_in (take (i + 1) xs))) ≡ then (last_of_climb n (lines_of_arms (arms_in (take i xs)))) (lines_of_all (script_of x.body))
 arm_lines_taken n xs i x within is =
     ap (λ ys. last_of_climb n (lines_of_arms (arms_in ys))) (taken xs i x within is)
-    ∙ (ap (last_of_climb n) (arm-lines-append (take i xs) (x ∷ []) ∙ ap (λ l. lines_of_arms (arms_in (take i xs)) ++ l) (append-none (lines_of_all (script_of x.body))))
+    ∙ (ap (last_of_climb n) (arm-lines-append (take i xs) (x ∷ []) ∙ ap (λ l. lines_of_arms (arms_in (take i xs)) ++ l) (append-nil (lines_of_all (script_of x.body))))
     ∙ climbed_on n (lines_of_arms (arms_in (take i xs))) (lines_of_all (script_of x.body)))
 
 -- what fell among the first of them falls among all
