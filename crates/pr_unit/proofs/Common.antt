@@ -2,6 +2,7 @@
 pub use Rattle.std.proofs.Common.{◌≡◌, ℕ, zero, suc, ◌+◌, ◌<◌, Bool, true, false, not, ◌&&◌, ◌||◌, List, [], ◌∷◌, length, if◌then◌else◌, IsTrue, nat_lt, ◌==◌, Some, None, Option, sym, refl, ap, ◌∙◌, subst, arith}
 pub use Rattle.std.proofs.lemmas.Bool.{false≢true, and_parts}
 pub use Rattle.std.proofs.lemmas.Bool.Decides.{nat_tests}
+pub use Rattle.std.proofs.Math.Bool.{or-false}
 pub use Rattle.pr_cdb.specs.declared.codes.TheConstants.{MOST_NEXUSES}
 pub use Rattle.pr_cdb.specs.declared.command.Command.{Command}
 pub use Rattle.pr_cdb.specs.declared.command.Command.TheVariants.{Register, Reserve, Release, Clear, Preempt}

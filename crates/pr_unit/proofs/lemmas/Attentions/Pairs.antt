@@ -1,6 +1,6 @@
 -- What sets of pending attentions contain.
-use Rattle.pr_unit.proofs.Common.{◌≡◌, ℕ, zero, suc, ◌+◌, ◌<◌, Bool, true, false, not, ◌&&◌, ◌||◌, List, [], ◌∷◌, length, if◌then◌else◌, nat_lt, ◌==◌, sym, refl, ap, ◌∙◌, arith, false≢true, nat_tests, MOST_NEXUSES, Codes, no_code, Pairs, place, table_pairs, each_with, pairs_where}
-use Rattle.std.proofs.Common.{◌≢◌, map, slice_index_or, slice_set, inl, inr, ◌⊎◌, add-one}
+use Rattle.pr_unit.proofs.Common.{◌≡◌, ℕ, zero, suc, ◌+◌, ◌<◌, Bool, true, false, not, ◌&&◌, ◌||◌, List, [], ◌∷◌, length, if◌then◌else◌, nat_lt, ◌==◌, sym, refl, ap, ◌∙◌, arith, false≢true, MOST_NEXUSES, Codes, no_code, Pairs, place, table_pairs, each_with, pairs_where, or-false}
+use Rattle.std.proofs.Common.{◌≢◌, map, slice_index_or, slice_set, inl, inr, ◌⊎◌, add-one, eqb-true, lt-ltb}
 use Rattle.std.specs.Ordering.{nat_cmp, eq_by_cmp, is_eq, ordering_then}
 use Rattle.std.specs.declared.cmp.Ordering.{Ordering}
 use Rattle.std.specs.declared.cmp.Ordering.TheVariants.{Less, Equal, Greater}
@@ -12,8 +12,9 @@ use Rattle.std.specs.List.{list_any}
 use Rattle.pr_registry.specs.Hosts.{Hosts}
 use Rattle.std.proofs.lemmas.Bool.Decides.{eqb_tells}
 use Rattle.std.proofs.lemmas.List.{get_or-set_same, get_or-set_other}
+use Rattle.std.proofs.Math.Bool.{or_self, and-or_distrib_right, and-or_distrib_left, and-false}
 use Rattle.pr_attention.proofs.lemmas.Sets.{contains-insert_code, contains-remove_code}
-use Rattle.pr_sets.proofs.lemmas.Members.{lt-suc}
+use Rattle.pr_sets.proofs.lemmas.Members.{lt-suc, lt-zero}
 use Rattle.pr_unit.specs.inside.Told.{AreBelow}
 use Rattle.pr_unit.specs.Attentions.{pair_cmp, of_host}
 
@@ -64,18 +65,11 @@ contains-remove-pair s q p = set.contains-remove pair_cmp_total s q p ∙ ap (λ
 pub contains-insert-pair : (s : Pairs) (q p : ℕ × ℕ) → set.contains (set.insert s q) p ≡ ((p.0 == q.0 && p.1 == q.1) || set.contains s p)
 contains-insert-pair s q p = set.contains-insert pair_cmp_total s q p ∙ ap (λ b. b || set.contains s p) (pair_tied p q)
 
-or_and : (a b c : Bool) → ((a && c) || (b && c)) ≡ ((a || b) && c)
-or_and true true true = refl
-or_and true true false = refl
-or_and true false true = refl
-or_and true false false = refl
-or_and false b c = refl
-
 any_with : (hosts : List ℕ) (code h x : ℕ) → list_any (eq_by_cmp pair_cmp (h, x)) (map (λ i. (i, code)) hosts) ≡ (list_any (eq_by_cmp nat_cmp h) hosts && x == code)
 any_with [] code h x = refl
 any_with (i ∷ is) code h x =
     (λ j. (pair_tied (h, x) (i, code) ∙ ap (λ b. b && x == code) (sym (unsigned_tied h i))) j || any_with is code h x j)
-    ∙ or_and (eq_by_cmp nat_cmp h i) (list_any (eq_by_cmp nat_cmp h) is) (x == code)
+    ∙ sym (and-or_distrib_right (eq_by_cmp nat_cmp h i) (list_any (eq_by_cmp nat_cmp h) is) (x == code))
 
 pub contains-each_with : (hosts : Hosts) (code h x : ℕ) → set.contains (each_with hosts code) (h, x) ≡ (set.contains hosts h && x == code)
 unfolding each_with
@@ -85,19 +79,11 @@ contains-each_with hosts code h x =
 
 -- ---- pairs from tables
 
-and_or : (a b c : Bool) → ((a && b) || (a && c)) ≡ (a && (b || c))
-and_or true b c = refl
-and_or false b c = refl
-
 any_of_host : (codes : List ℕ) (h q x : ℕ) → list_any (eq_by_cmp pair_cmp (q, x)) (map (λ code. (h, code)) codes) ≡ (q == h && list_any (eq_by_cmp nat_cmp x) codes)
-any_of_host [] h q x = none (q == h)
-  where
-    none : (b : Bool) → false ≡ (b && false)
-    none true = refl
-    none false = refl
+any_of_host [] h q x = sym (and-false (q == h))
 any_of_host (code ∷ codes) h q x =
     (λ j. (pair_tied (q, x) (h, code) ∙ ap (λ b. q == h && b) (sym (unsigned_tied x code))) j || any_of_host codes h q x j)
-    ∙ and_or (q == h) (eq_by_cmp nat_cmp x code) (list_any (eq_by_cmp nat_cmp x) codes)
+    ∙ sym (and-or_distrib_left (q == h) (eq_by_cmp nat_cmp x code) (list_any (eq_by_cmp nat_cmp x) codes))
 
 pub contains-of_host : (h : ℕ) (codes : Codes) (q x : ℕ) → set.contains (of_host h codes) (q, x) ≡ (q == h && set.contains codes x)
 unfolding of_host
@@ -105,37 +91,20 @@ contains-of_host h codes q x =
     set.contains-from_list pair_cmp_total (map (λ code. (h, code)) (set.items codes)) (q, x) ∙ any_of_host (set.items codes) h q x
     ∙ ap (λ b. q == h && b) (sym (set.contains-items codes x))
 
-or_same : (b : Bool) → (b || b) ≡ b
-or_same true = refl
-or_same false = refl
-
-or_false : (b : Bool) → (b || false) ≡ b
-or_false true = refl
-or_false false = refl
-
 joined_pair : (e l a b : Bool) → (e ≡ true → a ≡ b) → ((l && b) || (e && a)) ≡ ((e || l) && b)
-joined_pair true true a b same = ap (λ y. b || y) (same refl) ∙ or_same b
+joined_pair true true a b same = ap (λ y. b || y) (same refl) ∙ or_self b
 joined_pair true false a b same = same refl
-joined_pair false true a b same = or_false b
+joined_pair false true a b same = or-false b
 joined_pair false false a b same = refl
-
-pub not-lt-zero : (q : ℕ) → nat_lt q 0 ≡ false
-not-lt-zero q = grind (arith, nat_tests)
-
-pub same_number : (a b : ℕ) → (a == b) ≡ true → a ≡ b
-same_number a b e = grind (arith, nat_tests)
 
 pub contains-pairs_where : (n : ℕ) (f : ℕ → Codes) (q x : ℕ) → set.contains (pairs_where n f) (q, x) ≡ (nat_lt q n && set.contains (f q) x)
 unfolding pairs_where
-contains-pairs_where zero f q x = contains-none (q, x) ∙ ap (λ b. b && set.contains (f q) x) (sym (not-lt-zero q))
+contains-pairs_where zero f q x = contains-none (q, x) ∙ ap (λ b. b && set.contains (f q) x) (sym (lt-zero q))
 contains-pairs_where (suc n) f q x =
     contains-union-pairs (pairs_where n f) (of_host n (f n)) (q, x)
     ∙ (λ i. contains-pairs_where n f q x i || contains-of_host n (f n) q x i)
-    ∙ joined_pair (q == n) (nat_lt q n) (set.contains (f n) x) (set.contains (f q) x) (λ e. ap (λ h. set.contains (f h) x) (sym (same_number q n e)))
+    ∙ joined_pair (q == n) (nat_lt q n) (set.contains (f n) x) (set.contains (f q) x) (λ e. ap (λ h. set.contains (f h) x) (sym (eqb-true q n e)))
     ∙ ap (λ b. b && set.contains (f q) x) (sym (lt-suc q n))
-
-lt_true : (a b : ℕ) → a < b → nat_lt a b ≡ true
-lt_true a b h = grind (arith, nat_tests)
 
 -- the codes at a place of a table
 pub place_read : (table : List Codes) (h : ℕ) (d : Codes) → h < length table → slice_index_or table h d ≡ place table h
@@ -147,7 +116,7 @@ pub contains-table_pairs : (table : List Codes) (q x : ℕ) → set.contains (ta
 contains-table_pairs table q x = contains-pairs_where MOST_NEXUSES (place table) q x
 
 pub contains-table_pairs_in : (table : List Codes) (q x : ℕ) → q < MOST_NEXUSES → set.contains (table_pairs table) (q, x) ≡ set.contains (place table q) x
-contains-table_pairs_in table q x small = contains-table_pairs table q x ∙ ap (λ b. b && set.contains (place table q) x) (lt_true q MOST_NEXUSES small)
+contains-table_pairs_in table q x small = contains-table_pairs table q x ∙ ap (λ b. b && set.contains (place table q) x) (lt-ltb q MOST_NEXUSES small)
 
 pub place-set : (table : List Codes) (h : ℕ) (codes : Codes) (q : ℕ) → h < length table → place (slice_set table h codes) q ≡ (if q == h then codes else place table q)
 place-set table h codes q small = at (eqb_tells q h)
@@ -161,7 +130,7 @@ contains-table_pairs-set : (table : List Codes) (h : ℕ) (codes : Codes) (q x :
 contains-table_pairs-set table h codes q x whole small =
     contains-table_pairs (slice_set table h codes) q x
     ∙ ap (λ (s : Codes). nat_lt q MOST_NEXUSES && set.contains s x) (place-set table h codes q (omega arith))
-    ∙ swapped (q == h) (nat_lt q MOST_NEXUSES) (λ e. ap (λ n. nat_lt n MOST_NEXUSES) (same_number q h e) ∙ lt_true h MOST_NEXUSES small)
+    ∙ swapped (q == h) (nat_lt q MOST_NEXUSES) (λ e. ap (λ n. nat_lt n MOST_NEXUSES) (eqb-true q h e) ∙ lt-ltb h MOST_NEXUSES small)
     ∙ ap (λ b. if q == h then set.contains codes x else b) (sym (contains-table_pairs table q x))
   where
     swapped : (e l : Bool) → (e ≡ true → l ≡ true) → (l && set.contains (if e then codes else place table q) x) ≡ (if e then set.contains codes x else (l && set.contains (place table q) x))
@@ -180,7 +149,7 @@ table_pairs-insert table h codes code whole small is =
     at : (p : ℕ × ℕ) (b : Bool) → (p.0 == h) ≡ b → (if b then (p.1 == code || set.contains (place table h) p.1) else set.contains (table_pairs table) p) ≡ ((b && p.1 == code) || set.contains (table_pairs table) p)
     at p true e =
         ap (λ b. p.1 == code || b) (sym (contains-table_pairs_in table h p.1 small))
-        ∙ ap (λ q. p.1 == code || set.contains (table_pairs table) (q, p.1)) (sym (same_number p.0 h e))
+        ∙ ap (λ q. p.1 == code || set.contains (table_pairs table) (q, p.1)) (sym (eqb-true p.0 h e))
     at p false e = refl
 
 pub table_pairs-remove : (table : List Codes) (h : ℕ) (codes : Codes) (code : ℕ) → length table ≡ MOST_NEXUSES → h < MOST_NEXUSES → codes ≡ set.remove (place table h) code
@@ -195,7 +164,7 @@ table_pairs-remove table h codes code whole small is =
     at : (p : ℕ × ℕ) (b : Bool) → (p.0 == h) ≡ b → (if b then (not (p.1 == code) && set.contains (place table h) p.1) else set.contains (table_pairs table) p) ≡ (not (b && p.1 == code) && set.contains (table_pairs table) p)
     at p true e =
         ap (λ b. not (p.1 == code) && b) (sym (contains-table_pairs_in table h p.1 small))
-        ∙ ap (λ q. not (p.1 == code) && set.contains (table_pairs table) (q, p.1)) (sym (same_number p.0 h e))
+        ∙ ap (λ q. not (p.1 == code) && set.contains (table_pairs table) (q, p.1)) (sym (eqb-true p.0 h e))
     at p false e = refl
 
 -- ---- hosts that are told
@@ -207,14 +176,14 @@ IsToldBelow old new hosts code i =
 
 pub told_none : (old : Pairs) (hosts : Hosts) (code : ℕ) → IsToldBelow old old hosts code 0
 told_none old hosts code q x =
-    sym (ap (λ b. set.contains old (q, x) || (b && (set.contains hosts q && x == code))) (not-lt-zero q) ∙ or_false (set.contains old (q, x)))
+    sym (ap (λ b. set.contains old (q, x) || (b && (set.contains hosts q && x == code))) (lt-zero q) ∙ or-false (set.contains old (q, x)))
 
 -- one host more
 pub told_more : (old new : Pairs) (hosts : Hosts) (code i : ℕ) → set.contains hosts i ≡ true → IsToldBelow old new hosts code i
     → IsToldBelow old (set.insert new (i, code)) hosts code (i + 1)
 told_more old new hosts code i member told q x =
     contains-insert-pair new (i, code) (q, x) ∙ ap (λ b. (q == i && x == code) || b) (told q x)
-    ∙ at (q == i) (nat_lt q i) (set.contains hosts q) (x == code) (set.contains old (q, x)) (λ e. ap (set.contains hosts) (same_number q i e) ∙ member)
+    ∙ at (q == i) (nat_lt q i) (set.contains hosts q) (x == code) (set.contains old (q, x)) (λ e. ap (set.contains hosts) (eqb-true q i e) ∙ member)
     ∙ ap (λ b. set.contains old (q, x) || (b && (set.contains hosts q && x == code))) (sym (rw add-one (lt-suc q i)))
   where
     at : (e l m c o : Bool) → (e ≡ true → m ≡ true) → ((e && c) || (o || (l && (m && c)))) ≡ (o || ((e || l) && (m && c)))
@@ -229,7 +198,7 @@ told_more old new hosts code i member told q x =
 
 pub told_skips : (old new : Pairs) (hosts : Hosts) (code i : ℕ) → set.contains hosts i ≡ false → IsToldBelow old new hosts code i → IsToldBelow old new hosts code (i + 1)
 told_skips old new hosts code i member told q x =
-    told q x ∙ at (q == i) (nat_lt q i) (set.contains hosts q) (x == code) (set.contains old (q, x)) (λ e. ap (set.contains hosts) (same_number q i e) ∙ member)
+    told q x ∙ at (q == i) (nat_lt q i) (set.contains hosts q) (x == code) (set.contains old (q, x)) (λ e. ap (set.contains hosts) (eqb-true q i e) ∙ member)
     ∙ ap (λ b. set.contains old (q, x) || (b && (set.contains hosts q && x == code))) (sym (rw add-one (lt-suc q i)))
   where
     at : (e l m c o : Bool) → (e ≡ true → m ≡ false) → (o || (l && (m && c))) ≡ (o || ((e || l) && (m && c)))
@@ -247,4 +216,4 @@ told_all old new hosts code below told =
     at : (p : ℕ × ℕ) (l m : Bool) → nat_lt p.0 MOST_NEXUSES ≡ l → set.contains hosts p.0 ≡ m → (l && (m && p.1 == code)) ≡ (m && p.1 == code)
     at p true m is there = refl
     at p false false is there = refl
-    at p false true is there = let small = below p.0 there in absurd (false≢true (sym is ∙ lt_true p.0 MOST_NEXUSES small))
+    at p false true is there = let small = below p.0 there in absurd (false≢true (sym is ∙ lt-ltb p.0 MOST_NEXUSES small))

@@ -1,17 +1,16 @@
 -- What a reset makes pending.
-use Rattle.pr_unit.proofs.Common.{◌≡◌, ℕ, zero, suc, ◌+◌, ◌<◌, Bool, true, false, ◌&&◌, ◌||◌, IsTrue, nat_lt, ◌==◌, sym, refl, ap, ◌∙◌, arith, false≢true, nat_tests, power_on, Pairs, each_with, hosts_below}
+use Rattle.pr_unit.proofs.Common.{◌≡◌, ℕ, zero, suc, ◌+◌, ◌<◌, Bool, true, false, ◌&&◌, ◌||◌, IsTrue, nat_lt, ◌==◌, sym, refl, ap, ◌∙◌, arith, false≢true, nat_tests, power_on, Pairs, each_with, hosts_below, or-false}
 use Rattle.std.proofs.Common.{add-one}
 use Rattle.std.specs.FinSet as set
-use Rattle.std.proofs.Math.Bool.{or-false}
-use Rattle.pr_sets.proofs.lemmas.Members.{lt-suc}
+use Rattle.pr_sets.proofs.lemmas.Members.{lt-suc, lt-zero}
 use Rattle.pr_attention.specs.Attentions.{is_attention}
 use Rattle.pr_registry.proofs.lemmas.Sets.{contains-nobody, contains-insert}
 use Rattle.pr_unit.specs.Laws.{ResetsTellEach, ResetsAreWellFormed}
-use Rattle.pr_unit.proofs.lemmas.Attentions.Pairs.{same_pairs, contains-insert-pair, contains-union-pairs, contains-each_with, not-lt-zero}
+use Rattle.pr_unit.proofs.lemmas.Attentions.Pairs.{same_pairs, contains-insert-pair, contains-union-pairs, contains-each_with}
 
 contains-hosts_below : (n q : ℕ) → set.contains (hosts_below n) q ≡ nat_lt q n
 unfolding hosts_below
-contains-hosts_below zero q = contains-nobody q ∙ sym (not-lt-zero q)
+contains-hosts_below zero q = contains-nobody q ∙ sym (lt-zero q)
 contains-hosts_below (suc n) q = contains-insert (hosts_below n) n q ∙ ap (λ b. q == n || b) (contains-hosts_below n q) ∙ sym (lt-suc q n)
 
 contains-told : (old : Pairs) (n code q x : ℕ) → set.contains (set.union old (each_with (hosts_below n) code)) (q, x) ≡ (set.contains old (q, x) || (nat_lt q n && x == code))
@@ -22,7 +21,7 @@ contains-told old n code q x =
 -- no host yet
 pub told_nobody : (old : Pairs) (code : ℕ) → old ≡ set.union old (each_with (hosts_below 0) code)
 told_nobody old code =
-    same_pairs _ _ (λ p. sym (contains-told old 0 code p.0 p.1 ∙ ap (λ b. set.contains old p || (b && p.1 == code)) (not-lt-zero p.0) ∙ or-false (set.contains old p)))
+    same_pairs _ _ (λ p. sym (contains-told old 0 code p.0 p.1 ∙ ap (λ b. set.contains old p || (b && p.1 == code)) (lt-zero p.0) ∙ or-false (set.contains old p)))
 
 -- one host more
 pub told_one : (old : Pairs) (code n : ℕ) → set.insert (set.union old (each_with (hosts_below n) code)) (n, code) ≡ set.union old (each_with (hosts_below (n + 1)) code)

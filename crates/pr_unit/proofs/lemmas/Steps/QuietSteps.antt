@@ -1,6 +1,6 @@
 -- What does not end GOOD, and what only looks, changes at most what is pending for the sender.
-use Rattle.pr_unit.proofs.Common.{◌≡◌, ℕ, Bool, true, false, not, ◌&&◌, ◌||◌, IsTrue, ◌==◌, sym, refl, ap, ◌∙◌, subst, arith, false≢true, and_parts, nat_tests, Command, Register, Reserve, Release, Clear, Preempt, Request, Plain, Faulty, power_on, reservations_preempted, reservations_released, registrations_preempted, Pairs, each_with, decision, StepBy, UnitState, effect, after_report, Decision, PowerOn, Attention, Done}
-use Rattle.std.proofs.Common.{◌≢◌, ◌⊎◌, inl, inr}
+use Rattle.pr_unit.proofs.Common.{◌≡◌, ℕ, false, not, ◌&&◌, ◌||◌, IsTrue, ◌==◌, sym, refl, ap, ◌∙◌, subst, false≢true, and_parts, Command, Register, Reserve, Release, Clear, Preempt, Request, Plain, Faulty, power_on, reservations_preempted, reservations_released, registrations_preempted, Pairs, each_with, decision, StepBy, UnitState, effect, after_report, Decision, PowerOn, Attention, Done, or-false}
+use Rattle.std.proofs.Common.{◌≢◌, ◌⊎◌, inl, inr, ne_eqb}
 use Rattle.std.specs.FinSet as set
 use Rattle.pr_cdb.specs.declared.command.Command.TheVariants.{RegisterIgnore, PreemptAbort}
 use Rattle.pr_registry.specs.Hosts.{nobody}
@@ -15,11 +15,7 @@ each_with-nobody : (code : ℕ) (pending : Pairs) → set.union pending (each_wi
 each_with-nobody code pending =
     same_pairs _ _ (λ p. contains-union-pairs pending (each_with nobody code) p
     ∙ ap (λ b. set.contains pending p || b) (contains-each_with nobody code p.0 p.1 ∙ ap (λ b. b && p.1 == code) (set.contains-empty _ p.0))
-    ∙ or_false (set.contains pending p))
-  where
-    or_false : (b : Bool) → (b || false) ≡ b
-    or_false true = refl
-    or_false false = refl
+    ∙ or-false (set.contains pending p))
 
 told-no_change : (pending : Pairs) → pending_after pending no_change ≡ pending
 told-no_change pending =
@@ -36,12 +32,9 @@ reported-quiet : (u : UnitState) (h code : ℕ) → IsQuiet u h (after_report u 
 reported-quiet u h code = record {
   registry = refl;
   others = λ other x differs. contains-remove-pair u.pending (h, code) (other, x)
-      ∙ ap (λ b. not (b && x == code) && set.contains u.pending (other, x)) (not_same other h differs);
+      ∙ ap (λ b. not (b && x == code) && set.contains u.pending (other, x)) (ne_eqb other h differs);
   own = λ x is. (and_parts (not (h == h && x == code)) (set.contains u.pending (h, x)) (sym (contains-remove-pair u.pending (h, code) (h, x)) ∙ is)).1;
 }
-  where
-    not_same : (a b : ℕ) → a ≢ b → (a == b) ≡ false
-    not_same a b differs = grind (arith, nat_tests)
 
 -- the effect of a command that only looks
 effect-looking : (u : UnitState) (h : ℕ) (c : Command) → IsTrue (request_looks (Plain c)) → effect u h c ≡ u

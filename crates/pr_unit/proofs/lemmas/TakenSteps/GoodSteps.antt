@@ -1,6 +1,7 @@
 -- The steps that end GOOD: such a step of a command other than REQUEST SENSE has the command's effect, and
 -- where nothing is in its way there is one.
-use Rattle.pr_unit.proofs.Common.{◌≡◌, ℕ, Bool, true, false, ◌||◌, if◌then◌else◌, None, Option, sym, refl, ◌∙◌, subst, false≢true, Command, Sense, Plain, power_on, command_fault, good, data_of, last_decision, decision, StepBy, ends_good, UnitState, is_pending, is_any_pending, effect, Decision, PowerOn, Conflicting, Attention, Done, AtFault}
+use Rattle.pr_unit.proofs.Common.{◌≡◌, ℕ, Bool, true, false, if◌then◌else◌, None, Option, sym, refl, ◌∙◌, subst, false≢true, Command, Sense, Plain, power_on, command_fault, good, data_of, last_decision, decision, StepBy, ends_good, UnitState, is_pending, is_any_pending, effect, Decision, PowerOn, Conflicting, Attention, Done, AtFault}
+use Rattle.std.proofs.lemmas.Bool.{or_parts}
 use Rattle.pr_unit.specs.Conflicts.{command_conflicts}
 use Rattle.pr_unit.specs.Replies.{is_request_sense}
 use Rattle.pr_unit.specs.Laws.{TakesEffect, GoodStepsTakeEffect, FreeCommandsEndGood}
@@ -34,12 +35,8 @@ good_is_free u h c good looks = by_decision (decision u h (Plain c)) refl good
 
 pub free_is_done : (u : UnitState) (h : ℕ) (c : Command) → is_any_pending u h ≡ false → command_conflicts u.registry h c ≡ false → command_fault u.registry h c ≡ None → decision u h (Plain c) ≡ Done
 free_is_done u h c none free whole =
-    at (is_pending u h power_on) (command_conflicts u.registry h c) (is_any_pending u h) (command_fault u.registry h c) (first_false (is_pending u h power_on) _ none) free none whole
+    at (is_pending u h power_on) (command_conflicts u.registry h c) (is_any_pending u h) (command_fault u.registry h c) (or_parts (is_pending u h power_on) _ none).0 free none whole
   where
-    first_false : (a b : Bool) → (a || b) ≡ false → a ≡ false
-    first_false true b is = is
-    first_false false b is = refl
-
     at : (a b any : Bool) (f : Option Sense) → a ≡ false → b ≡ false → any ≡ false → f ≡ None
         → (if a then PowerOn else (if b then Conflicting else (if any then Attention else last_decision f))) ≡ Done
     at a b any f p q r s = rw (p, q, r, s) refl

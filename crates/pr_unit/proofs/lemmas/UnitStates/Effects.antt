@@ -1,7 +1,8 @@
 -- A command without conflict and fault leaves a well formed state well formed.
-use Rattle.pr_unit.proofs.Common.{◌≡◌, ℕ, ◌<◌, Bool, true, false, not, ◌&&◌, ◌||◌, if◌then◌else◌, IsTrue, ◌==◌, Some, None, Option, sym, refl, ◌∙◌, subst, arith, false≢true, nat_tests, MOST_NEXUSES, Command, Register, Reserve, Release, Clear, Preempt, reservations_preempted, reservations_released, registrations_preempted, Pairs, each_with, command_fault, UnitState, IsWellFormed}
+use Rattle.pr_unit.proofs.Common.{◌≡◌, ℕ, ◌<◌, Bool, true, false, not, ◌&&◌, ◌||◌, if◌then◌else◌, IsTrue, ◌==◌, Some, None, Option, sym, refl, ◌∙◌, subst, arith, false≢true, nat_tests, MOST_NEXUSES, Command, Register, Reserve, Release, Clear, Preempt, reservations_preempted, reservations_released, registrations_preempted, Pairs, each_with, command_fault, UnitState, IsWellFormed, and_parts}
 use Rattle.std.proofs.Common.{◌^◌, is_some, is_none}
 use Rattle.std.specs.FinSet as set
+use Rattle.std.proofs.lemmas.Bool.{or_parts}
 use Rattle.pr_cdb.specs.declared.command.Kind.{Kind}
 use Rattle.pr_cdb.specs.declared.command.Command.TheVariants.{RegisterIgnore, PreemptAbort}
 use Rattle.pr_cdb.specs.Ranges.{Fits}
@@ -19,10 +20,6 @@ use Rattle.pr_unit.specs.Faults.{illegal, preempt_fault}
 use Rattle.pr_unit.specs.Laws.{EffectsAreWellFormed}
 use Rattle.pr_unit.specs.inside.Told.{AreBelow, TellsBelow}
 use Rattle.pr_unit.proofs.lemmas.Attentions.Pairs.{contains-union-pairs, contains-each_with}
-
-first_false : (a b : Bool) → (a || b) ≡ false → a ≡ false
-first_false true b is = is
-first_false false b is = refl
 
 -- who has the key is registered
 registered_by_key : (u : State) (h rk : ℕ) → lacks_key u h rk ≡ false → IsTrue (is_registered u h)
@@ -56,13 +53,13 @@ well_formed-after : (u : State) (h : ℕ) (c : Command) → IsWellFormedRegistry
 well_formed-after u h (Register rk sark) w there fits free whole = well_formed-after_register u h sark w there fits.1
 well_formed-after u h (RegisterIgnore sark) w there fits free whole = well_formed-after_register u h sark w there fits
 well_formed-after u h (Reserve rk kind) w there fits free whole =
-    well_formed-reserved u h kind w (registered_by_key u h rk (first_false (lacks_key u h rk) (conflicts_with_reserve u h u.held kind) free))
+    well_formed-reserved u h kind w (registered_by_key u h rk (or_parts (lacks_key u h rk) (conflicts_with_reserve u h u.held kind) free).0)
 well_formed-after u h (Release rk kind) w there fits free whole = well_formed-released u h kind w
 well_formed-after u h (Clear rk) w there fits free whole = well_formed-cleared u w
 well_formed-after u h (Preempt rk sark kind) w there fits free whole =
-    well_formed-preempted u h sark kind w (registered_by_key u h rk (first_false (lacks_key u h rk) (not (sark == 0) && has_no_registrant u.keys sark) free)) (has_kind u sark kind whole)
+    well_formed-preempted u h sark kind w (registered_by_key u h rk (or_parts (lacks_key u h rk) (not (sark == 0) && has_no_registrant u.keys sark) free).0) (has_kind u sark kind whole)
 well_formed-after u h (PreemptAbort rk sark kind) w there fits free whole =
-    well_formed-preempted u h sark kind w (registered_by_key u h rk (first_false (lacks_key u h rk) (not (sark == 0) && has_no_registrant u.keys sark) free)) (has_kind u sark kind whole)
+    well_formed-preempted u h sark kind w (registered_by_key u h rk (or_parts (lacks_key u h rk) (not (sark == 0) && has_no_registrant u.keys sark) free).0) (has_kind u sark kind whole)
 well_formed-after u h _ w there fits free whole = w
 
 -- no command changes how many hosts there are
@@ -94,14 +91,10 @@ either_way : (a b : Bool) (P : Type 0) → (a || b) ≡ true → (a ≡ true →
 either_way true b P is left right = left refl
 either_way false b P is left right = right is
 
-both_parts : (a b : Bool) → (a && b) ≡ true → (a ≡ true) × (b ≡ true)
-both_parts true b is = (refl, is)
-both_parts false b is = absurd (false≢true is)
-
 -- who is told is a host that is there
 told_with : (u : State) (s : Hosts) (k q code : ℕ) → IsWellFormedRegistry u → AreRegistered u s → IsTrue (is_attention k) → set.contains (each_with s k) (q, code) ≡ true → IsOfHost u.hosts q code
 told_with u s k q code w are known is =
-    let parts = both_parts (set.contains s q) (code == k) (sym (contains-each_with s k q code) ∙ is) in
+    let parts = and_parts (set.contains s q) (code == k) (sym (contains-each_with s k q code) ∙ is) in
     let same : k ≡ code = grind (arith, nat_tests) in
     (in_range u q w (are q parts.0), subst (λ x. IsTrue (is_attention x)) same known)
 

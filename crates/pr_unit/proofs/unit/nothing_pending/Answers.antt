@@ -1,7 +1,8 @@
-use Rattle.pr_unit.proofs.Common.{◌≡◌, ℕ, zero, suc, Bool, true, false, ◌&&◌, List, [], ◌∷◌, nat_lt, sym, refl, ap, ◌∙◌, arith, MOST_NEXUSES, Codes, no_code, contains-no_code, place, table_pairs}
+use Rattle.pr_unit.proofs.Common.{◌≡◌, ℕ, zero, suc, ◌&&◌, List, [], ◌∷◌, nat_lt, sym, refl, ap, ◌∙◌, arith, MOST_NEXUSES, Codes, no_code, contains-no_code, place, table_pairs}
 use Rattle.std.proofs.Common.{rules}
 use Rattle.std.specs.FinSet as set
 use Rattle.std.specs.List.{All}
+use Rattle.std.proofs.Math.Bool.{and-false}
 use Rattle.pr_unit.proofs.lemmas.Attentions.Pairs.{same_pairs, contains-none, contains-table_pairs}
 use Rattle.pr_unit.proofs.unit.nothing_pending.Goals as goal
 
@@ -11,14 +12,10 @@ place-nothing [] each q = refl
 place-nothing (codes ∷ table) each zero = each 0 no_code (omega arith)
 place-nothing (codes ∷ table) each (suc q) = place-nothing table (λ k d small. each (suc k) d (omega arith)) q
 
-and_false : (b : Bool) → (b && false) ≡ false
-and_false true = refl
-and_false false = refl
-
 of_nothing : (table : List Codes) → All (λ codes. codes ≡ no_code) table → table_pairs table ≡ set.empty
 of_nothing table each = same_pairs _ _ (λ p.
     contains-table_pairs table p.0 p.1 ∙ ap (λ s. nat_lt p.0 MOST_NEXUSES && set.contains s p.1) (place-nothing table each p.0)
-    ∙ ap (λ b. nat_lt p.0 MOST_NEXUSES && b) (contains-no_code p.1) ∙ and_false (nat_lt p.0 MOST_NEXUSES) ∙ sym (contains-none p))
+    ∙ ap (λ b. nat_lt p.0 MOST_NEXUSES && b) (contains-no_code p.1) ∙ and-false (nat_lt p.0 MOST_NEXUSES) ∙ sym (contains-none p))
 
 pub returns : goal.returns
 returns c =
