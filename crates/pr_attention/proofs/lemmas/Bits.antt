@@ -11,6 +11,7 @@ use Rattle.std.proofs.lemmas.Bool.Decides.{nat_tests, eqb_tells}
 use Rattle.std.proofs.lemmas.Nat.{or_lt, and_le_l}
 use Rattle.std.proofs.lemmas.Nat.Bits.{bit_at_or, bit_at-pow_same, bit_at-pow_other, bit_at_clear_same, bit_at_clear_other, bit_at-zero, bit_at-lt, and_pow, same_from_bits_below}
 use Rattle.bitflags.specs.Sets.{without}
+use Rattle.std.proofs.Math.Bool.{and-false}
 use Rattle.pr_attention.specs.declared.attention.Attention.{Attention}
 use Rattle.pr_attention.specs.declared.attention.Attention.TheVariants.{PowerOn, ReservationsPreempted, ReservationsReleased, RegistrationsPreempted}
 use Rattle.pr_attention.specs.Attentions.{attentions, is_attention, code_of, no_code, AreAttentions}
@@ -126,11 +127,7 @@ codes_of-without_flag bits a =
 
 pub codes_of-zero : codes_of 0 ≡ no_code
 codes_of-zero =
-    same_codes _ _ (λ q. contains-codes_of 0 q ∙ ap (λ n. is_attention q && (n == 1)) (bit_at-zero (place_of q)) ∙ none (is_attention q) ∙ sym (contains-no_code q))
-  where
-    none : (b : Bool) → (b && false) ≡ false
-    none true = refl
-    none false = refl
+    same_codes _ _ (λ q. contains-codes_of 0 q ∙ ap (λ n. is_attention q && (n == 1)) (bit_at-zero (place_of q)) ∙ and-false (is_attention q) ∙ sym (contains-no_code q))
 
 -- ---- what a set says of its bits
 
