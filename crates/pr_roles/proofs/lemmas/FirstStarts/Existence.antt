@@ -1,9 +1,10 @@
 -- The first start: that it is allowed, and that it is there where some state is allowed.
-use Rattle.pr_roles.proofs.Common.{◌≡◌, ℕ, zero, suc, ◌+◌, ◌<◌, Bool, true, false, cond, not, ◌⊎◌, List, [], ◌∷◌, map, length, is_some, ◌==◌, slice_get, slice_index_or, Some, None, Contains, Option, option_map, sym, refl, ap, ◌∙◌, subst, inl, inr, arith, list_all, false≢true, and_parts, none-some, same_Some, slice_get-map, IsKey, Starts, first_of, first_key, start_of}
+use Rattle.pr_roles.proofs.Common.{◌≡◌, ℕ, zero, suc, ◌+◌, ◌<◌, Bool, true, false, cond, not, ◌⊎◌, List, [], ◌∷◌, map, length, is_some, ◌==◌, slice_get, slice_index_or, Some, None, Contains, Option, option_map, sym, refl, ap, ◌∙◌, subst, inl, inr, arith, list_all, false≢true, and_parts, none-some, same_Some, slice_get-map, IsKey, Starts, first_of, first_key, start_of, slice_get_within}
 use Rattle.std.specs.List.{position_from, All}
 use Rattle.std.proofs.Common.{◌≢◌, ◌||◌, position, slice_set}
 use Rattle.std.proofs.lemmas.Bool.Decides.{eqb_tells}
 use Rattle.std.proofs.lemmas.Iterator.Adapters.{position_from-zero}
+use Rattle.std.proofs.lemmas.Option.{get_or_from_slice_get}
 use Rattle.pr_script.specs.Grammar.{is_declared}
 use Rattle.pr_roles.specs.declared.parts.Nexus.{Nexus as NexusPart}
 
@@ -107,6 +108,4 @@ first_key_found ks k there = at ks there.0 there.1 there.2
     at (None ∷ ks) (suc i) short is = at ks i (omega (arith, short)) is
 
 pub slice_get_contains : {X : Type 0} (xs : List X) (i : ℕ) (x : X) → slice_get xs i ≡ Some x → Contains xs x
-slice_get_contains [] i x is = absurd (none-some x is)
-slice_get_contains (y ∷ ys) zero x is = subst (Contains (y ∷ ys)) (same_Some _ _ is) (contains_first y ys)
-slice_get_contains (y ∷ ys) (suc i) x is = contains_more y ys x (slice_get_contains ys i x is)
+slice_get_contains xs i x is = (i, slice_get_within xs i x is, get_or_from_slice_get xs i x x is)

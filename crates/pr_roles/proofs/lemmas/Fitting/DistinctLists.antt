@@ -1,8 +1,8 @@
 -- Lists without repetition, and lists of parts.
-use Rattle.pr_roles.proofs.Common.{◌≡◌, ℕ, ◌<◌, Bool, true, false, not, ◌&&◌, List, [], ◌∷◌, map, length, slice_index_or, bytes_eq, sym, refl, ap, ◌∙◌, arith, list_all, are_distinct, Nexus, nexus_of}
+use Rattle.pr_roles.proofs.Common.{◌≡◌, ℕ, ◌<◌, Bool, true, false, not, ◌&&◌, List, [], ◌∷◌, map, length, slice_index_or, bytes_eq, sym, refl, ap, ◌∙◌, list_all, are_distinct, Nexus, nexus_of}
 use Rattle.std.specs.Prelude.{◌||◌}
 use Rattle.std.specs.List.{list_any}
-use Rattle.std.proofs.lemmas.List.{get_or-map}
+use Rattle.std.proofs.lemmas.List.{get_or-map, length-map}
 use Rattle.pr_roles.specs.declared.parts.Nexus.{Nexus as NexusPart}
 
 any_same : {X : Type 0} (f g : X → Bool) → ((x : X) → f x ≡ g x) → (xs : List X) → list_any f xs ≡ list_any g xs
@@ -25,8 +25,7 @@ names_of_parts [] = refl
 names_of_parts (n ∷ ns) = ap (λ l. n.name.bytes ∷ l) (names_of_parts ns)
 
 pub length_of_parts : (ns : List NexusPart) → length (map nexus_of ns) ≡ length ns
-length_of_parts [] = refl
-length_of_parts (n ∷ ns) = omega (arith, length_of_parts ns)
+length_of_parts ns = length-map ns nexus_of
 
 -- ---- names
 

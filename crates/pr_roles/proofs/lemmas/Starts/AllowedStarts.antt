@@ -4,7 +4,8 @@ use Rattle.std.specs.FinMap as finmap
 use Rattle.std.specs.List.{All as Each}
 use Rattle.std.proofs.Common.{lit≤, ◌^◌, if◌then◌else◌, IfSome, IsSome}
 use Rattle.std.proofs.Math.Nat.{eq-or-lt_of_le}
-use Rattle.std.proofs.lemmas.Bool.{ltb-true}
+use Rattle.std.proofs.lemmas.Bool.{ltb-true, not-true}
+use Rattle.std.proofs.lemmas.List.{length-map}
 use Rattle.pr_cdb.specs.declared.codes.TheConstants.{MOST_NEXUSES}
 use Rattle.pr_roles.specs.declared.limits.TheConstants.{MOST_DECLARED_1, MOST_DECLARED_2}
 use Rattle.pr_registry.specs.Hosts.{Keys}
@@ -85,7 +86,7 @@ at_place keys h k is = by (nat_lt h (length keys)) refl (sym (get-table_keys (le
 alternatives_at : (s : Scenario) (h : ℕ) (n : Nexus) → nexus s h ≡ Some n → slice_get (starts s) h ≡ Some n.start
 alternatives_at s h n there = slice_get-map (λ n. n.start) s.nexuses h ∙ ap (option_map (λ n. n.start)) there
 
-some_nexus : (s : Scenario) (h : ℕ) → h < length s.nexuses → (n : Nexus) × (nexus s h ≡ Some n)
+pub some_nexus : (s : Scenario) (h : ℕ) → h < length s.nexuses → (n : Nexus) × (nexus s h ≡ Some n)
 some_nexus s h within = at s.nexuses h within
   where
     at : (ns : List Nexus) (h : ℕ) → h < length ns → (n : Nexus) × (slice_get ns h ≡ Some n)
@@ -94,21 +95,13 @@ some_nexus s h within = at s.nexuses h within
     at (n ∷ ns) (suc h) within = at ns h (omega (arith, within))
 
 starts_length : (s : Scenario) → length (starts s) ≡ length s.nexuses
-starts_length s = at s.nexuses
-  where
-    at : (ns : List Nexus) → length (map (λ n. n.start) ns) ≡ length ns
-    at [] = refl
-    at (n ∷ ns) = omega (arith, at ns)
-
-not_true : (b : Bool) → not b ≡ true → b ≡ false
-not_true true is = sym is
-not_true false is = refl
+starts_length s = length-map s.nexuses (λ n. n.start)
 
 holds_in : (keys : List (Option ℕ)) (held : Option Held) (hosts : ℕ) → is_reservation hosts held ≡ true → Holding keys held → HasHolder (table_keys (length keys) keys) held
 unfolding Holding
 holds_in keys None hosts fits holding = tt
 holds_in keys (Some (One t h)) hosts fits holding =
-    (not_true (is_all t) (and_parts (not (is_all t)) _ fits).0, ap is_some (get-table_keys_in (length keys) keys h holding.0) ∙ holding.1)
+    (not-true (is_all t) (and_parts (not (is_all t)) _ fits).0, ap is_some (get-table_keys_in (length keys) keys h holding.0) ∙ holding.1)
 holds_in keys (Some (All t)) hosts fits holding =
     (fits, not_empty-table_keys (length keys) keys holding.0 holding.1 holding.2)
 

@@ -1,6 +1,6 @@
 -- How often a nexus is refused in a run.
 use Rattle.pr_roles.proofs.Common.{◌≡◌, ℕ, ◌+◌, ◌<◌, ◌≤◌, Bool, true, false, cond, ◌&&◌, List, [], ◌∷◌, ◌==◌, sym, refl, ap, ◌∙◌, subst, arith, false≢true, and_parts, nat_tests, UnitState, Scenario, world_from}
-use Rattle.std.proofs.Common.{IsTrue, ◌++◌}
+use Rattle.std.proofs.Common.{IsTrue, ◌++◌, zero-add}
 use Rattle.std.specs.List.{count_by}
 use Rattle.std.proofs.lemmas.List.Sums.{sum_by_push, sum_by-cons}
 use Rattle.pr_cdb.specs.declared.reply.Reply.{Reply}
@@ -83,10 +83,7 @@ run_within s w [] v run h how within = subst (λ (x : World). refusals_by x.hist
 run_within s w (e ∷ es) v run h how within = run_within s run.0 es v run.2 h how (refused_within s w e run.0 run.1 h how within)
 
 pub refusals_are_counted : RefusalsAreCounted
-refusals_are_counted s u es w run h how = run_counted s (world_from s u) es w run h how ∙ none_before (count_by (is_refused_in h how) es)
-  where
-    none_before : (n : ℕ) → 0 + n ≡ n
-    none_before n = omega arith
+refusals_are_counted s u es w run h how = run_counted s (world_from s u) es w run h how ∙ zero-add (count_by (is_refused_in h how) es)
 
 pub refusals_are_declared : RefusalsAreDeclared
 refusals_are_declared s u es w run h how =

@@ -1,6 +1,6 @@
 -- How often the unit is reset in a run.
 use Rattle.pr_roles.proofs.Common.{◌≡◌, ℕ, ◌+◌, ◌<◌, ◌≤◌, true, false, cond, ◌&&◌, ◌⊎◌, List, [], ◌∷◌, nat_lt, nat_le, ◌==◌, sym, ap, ◌∙◌, subst, inl, inr, arith, false≢true, nat_tests, Scenario, world_from}
-use Rattle.std.proofs.Common.{◌++◌}
+use Rattle.std.proofs.Common.{◌++◌, zero-add}
 use Rattle.std.specs.List.{count_by}
 use Rattle.std.proofs.lemmas.Bool.{or_cases}
 use Rattle.std.proofs.lemmas.List.Sums.{sum_by_push, sum_by-cons}
@@ -48,10 +48,7 @@ run_within s w [] v run within = subst (λ (x : World). resets_in x.history ≤ 
 run_within s w (e ∷ es) v run within = run_within s run.0 es v run.2 (one_within s w e run.0 run.1 within)
 
 pub resets_are_counted : ResetsAreCounted
-resets_are_counted s u es w run = run_counted s (world_from s u) es w run ∙ none_before (count_by is_reset_event es)
-  where
-    none_before : (n : ℕ) → 0 + n ≡ n
-    none_before n = omega arith
+resets_are_counted s u es w run = run_counted s (world_from s u) es w run ∙ zero-add (count_by is_reset_event es)
 
 pub resets_are_declared : ResetsAreDeclared
 resets_are_declared s u es w run = subst (λ n. n ≤ s.resets) (resets_are_counted s u es w run) (run_within s (world_from s u) es w run (omega arith))
