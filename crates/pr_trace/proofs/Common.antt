@@ -4,7 +4,7 @@ pub use Rattle.std.specs.Fmt.{digit_glyph, digits_onto}
 unfoldable pub use Rattle.std.specs.Fmt.{digits}
 pub use Rattle.std.specs.Io.KnownBytes.{prepend_known, Keeps, Appends}
 pub use Rattle.std.specs.List.{position_or_len, slice_split}
-pub use Rattle.std.proofs.lemmas.Bool.{cases_lt}
+pub use Rattle.std.proofs.lemmas.Bool.{cases_lt, lt-ltb}
 pub use Rattle.std.proofs.lemmas.Bool.Decides.{nat_tests}
 pub use Rattle.std.proofs.lemmas.List.Splits.{length-slice_split}
 pub use Rattle.std.proofs.lemmas.Slice.Eq.{bytes_eq-Decides}

@@ -2,6 +2,7 @@
 use Rattle.pr_trace.proofs.Common.{◌≡◌, ℕ, zero, suc, ◌+◌, ◌*◌, ◌/◌, ◌<◌, ◌≤◌, true, false, cond, ◌&&◌, List, [], ◌∷◌, ◌++◌, length, get_or, take, drop, nat_lt, nat_le, ◌==◌, Some, None, codes, Option, bytes_eq, sym, refl, ap, ◌∙◌, inl, inr, append_assoc, arith, length-drop, nat_tests, pairs_in}
 use Rattle.std.specs.Simd.{first_chunks}
 use Rattle.std.proofs.Common.{◌⊎◌, drop-drop, option_map}
+use Rattle.std.proofs.lemmas.Option.{same_Some}
 use Rattle.pr_trace.specs.Chain.{◌>>=◌}
 use Rattle.pr_trace.specs.EntryWords.{byte_in, bytes_in}
 
@@ -98,12 +99,8 @@ bytes_or : Option (List ℕ) → List ℕ
 bytes_or None = []
 bytes_or (Some bytes) = bytes
 
-some_is : {x y : List ℕ} → Some x ≡ Some y → x ≡ y
-unfolding bytes_or
-some_is is = ap bytes_or is
-
 pairs_length : (word bs : List ℕ) → pairs_in word ≡ Some bs → length word ≡ 2 * length bs
-pairs_length [] bs is = omega (arith, ap length (some_is is))
+pairs_length [] bs is = omega (arith, ap length (same_Some _ _ is))
 pairs_length (d ∷ []) bs is = let bad : None ≡ Some bs = is in cc
 pairs_length (h ∷ l ∷ ds) bs is = of_byte (pairs_length ds) (byte_in h l) refl (pairs_in ds) refl
   where
@@ -111,11 +108,8 @@ pairs_length (h ∷ l ∷ ds) bs is = of_byte (pairs_length ds) (byte_in h l) re
     of_byte rest None e o f = let bad : None ≡ Some bs = sym (first_pair (h ∷ l ∷ ds) (omega arith) ∙ rw e refl) ∙ is in cc
     of_byte rest (Some b) e None f = let bad : None ≡ Some bs = sym (first_pair (h ∷ l ∷ ds) (omega arith) ∙ rw (e, f) refl) ∙ is in cc
     of_byte rest (Some b) e (Some others) f =
-        let whole : b ∷ others ≡ bs = some_is (sym (first_pair (h ∷ l ∷ ds) (omega arith) ∙ rw (e, f) refl) ∙ is) in
+        let whole : b ∷ others ≡ bs = same_Some _ _ (sym (first_pair (h ∷ l ∷ ds) (omega arith) ∙ rw (e, f) refl) ∙ is) in
         omega (arith, ap length whole, rest others f)
-
-pub none_left : (n : ℕ) → (n == 0) ≡ true → n ≡ 0
-none_left n h = grind (arith, nat_tests)
 
 pub some_left : (n : ℕ) → (n == 0) ≡ false → 1 ≤ n
 some_left n h = grind (arith, nat_tests)

@@ -1,5 +1,6 @@
 -- What is read of the line in front, of which the end may not be at hand.
-use Rattle.pr_trace.proofs.Common.{◌≡◌, ℕ, ◌+◌, ◌-◌, ◌<◌, ◌≤◌, Bool, true, false, ◌&&◌, List, [], ◌∷◌, ◌++◌, length, take, drop, IfSome, if◌then◌else◌, nat_lt, nat_le, ◌==◌, Some, None, Ok, Err, codes, decimal, Option, Result, bytes_eq, sym, refl, ap, ◌∙◌, subst, inl, inr, append_assoc, append-nil, arith, length-append, length-take, prepend_known, Keeps, cases_lt, nat_tests, bytes_eq-Decides, Item, and_then, later_lines, items_of, trace_in, lines, item_on, is_later, first_line, most_items, Leads, MOST_LATER_LINES, MOST_LINE_BYTES}
+use Rattle.pr_trace.proofs.Common.{◌≡◌, ℕ, ◌+◌, ◌-◌, ◌<◌, ◌≤◌, true, false, List, [], ◌∷◌, ◌++◌, length, take, drop, IfSome, if◌then◌else◌, nat_lt, nat_le, ◌==◌, Some, None, Ok, Err, codes, decimal, Option, Result, bytes_eq, sym, refl, ap, ◌∙◌, subst, inl, inr, append_assoc, append-nil, arith, length-append, length-take, prepend_known, Keeps, cases_lt, nat_tests, bytes_eq-Decides, Item, and_then, later_lines, items_of, trace_in, lines, item_on, is_later, first_line, most_items, Leads, MOST_LATER_LINES, MOST_LINE_BYTES, lt-ltb}
+use Rattle.std.proofs.lemmas.Bool.{lt-leb}
 use Rattle.std.proofs.lemmas.List.{take-take}
 use Rattle.pr_trace.specs.declared.trace_error.TraceError.{TraceError}
 use Rattle.pr_trace.specs.declared.trace_error.TraceError.TheVariants.{Syntax, TooLong, ReadFault, Memory}
@@ -46,24 +47,14 @@ module _ (held more : List ℕ) (n : ℕ) (front : IsFront held more n) (within 
     | inr h ↦ ap P (front.whole h).0
   ]
 
-many : (m n : ℕ) → m < n → nat_lt m n ≡ true
-many m n h = grind (arith, nat_tests)
-
 at_most : (n : ℕ) → n ≡ MOST_LATER_LINES → nat_le MOST_LATER_LINES n ≡ true
 at_most n h = grind (arith, nat_tests)
 
-nat_le_false : (m n : ℕ) → n < m → nat_le m n ≡ false
-nat_le_false m n h = grind (arith, nat_tests)
-
 below : (n : ℕ) → n ≤ MOST_LATER_LINES → (n ≡ MOST_LATER_LINES → ⊥) → nat_le MOST_LATER_LINES n ≡ false
-below n h k = nat_le_false MOST_LATER_LINES n (omega arith)
+below n h k = lt-leb MOST_LATER_LINES n (omega arith)
 
 too_long : (n : ℕ) → MOST_LINE_BYTES < n → nat_le n MOST_LINE_BYTES ≡ false
 too_long n h = grind (arith, nat_tests)
-
-and_false : (b : Bool) → (b && false) ≡ false
-and_false true = refl
-and_false false = refl
 
 -- ---- the first line
 
@@ -191,7 +182,7 @@ module _ (version : ℕ) (names : List (List ℕ)) {start : Option (List ℕ)} {
 
 entry_by_front : (version : ℕ) (names : List (List ℕ)) (index : ℕ) → ByFront (item_on version names index)
 unfolding item_on
-entry_by_front version names index l m h k same = rw (many MOST_LINE_BYTES (length l) h, many MOST_LINE_BYTES (length m) k) refl
+entry_by_front version names index l m h k same = rw (lt-ltb MOST_LINE_BYTES (length l) h, lt-ltb MOST_LINE_BYTES (length m) k) refl
 
 -- what is said of the entries that are left, behind these
 abbrev pub EntriesLeft : ℕ → List (List ℕ) → List Item → List ℕ → List ℕ → Type 0
@@ -223,7 +214,7 @@ no_entry : (version : ℕ) (names : List (List ℕ)) (index : ℕ) (l : List ℕ
 unfolding item_on
 no_entry version names index l e h k = elim (nat_lt (most_items version) index) as (λ b. nat_lt (most_items version) index ≡ b → ⊥) [
   | true ↦ λ over. let bad : Err TooLong ≡ Ok e = sym (rw over refl) ∙ k in cc
-  | false ↦ λ within. let bad : Err (Syntax (index + 1)) ≡ Ok e = sym (rw (within, many MOST_LINE_BYTES (length l) h) refl) ∙ k in cc
+  | false ↦ λ within. let bad : Err (Syntax (index + 1)) ≡ Ok e = sym (rw (within, lt-ltb MOST_LINE_BYTES (length l) h) refl) ∙ k in cc
 ] refl
 
 -- an entry's line is not too long
@@ -292,7 +283,7 @@ module _ (version : ℕ) (names : List (List ℕ)) (es : List Item) {start mid :
 pub entry_few : (version : ℕ) (names : List (List ℕ)) (index : ℕ) (l : List ℕ) (e : Item) → item_on version names index l ≡ Ok e → index ≤ most_items version
 unfolding item_on
 entry_few version names index l e k = elim (cases_lt (most_items version) index) [
-  | inl h ↦ let bad : Err TooLong ≡ Ok e = sym (rw (many (most_items version) index h) refl) ∙ k in cc
+  | inl h ↦ let bad : Err TooLong ≡ Ok e = sym (rw (lt-ltb (most_items version) index h) refl) ∙ k in cc
   | inr h ↦ h
 ]
 

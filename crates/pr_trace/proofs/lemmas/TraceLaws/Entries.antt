@@ -1,6 +1,6 @@
 -- Items that were written are read back.
-use Rattle.pr_trace.proofs.Common.{◌≡◌, ℕ, zero, suc, ◌+◌, ◌/◌, ◌%◌, ◌<◌, ◌≤◌, Bool, true, false, cond, ◌&&◌, List, [], ◌∷◌, ◌++◌, length, nat_lt, Some, Ok, codes, decimal, bytes_eq, sym, refl, ap, ◌∙◌, append_assoc, arith, length-append, ne_eqb, digit_glyph, digits_onto, digits, nat_tests, bytes_eq-Decides, Item, pairs_or_dash, joined_by_spaces, and_then, items_of, lines, words, item_on, is_later, name_of, item_lines, most_items, MOST_CDB_LENGTH, MOST_LETTERS, MOST_LINE_BYTES, PARAMETER_LIST_LENGTH}
-use Rattle.std.proofs.Common.{eqb, add-zero}
+use Rattle.pr_trace.proofs.Common.{◌≡◌, ℕ, zero, suc, ◌+◌, ◌/◌, ◌%◌, ◌<◌, ◌≤◌, Bool, true, false, cond, ◌&&◌, List, [], ◌∷◌, ◌++◌, length, Some, Ok, codes, decimal, bytes_eq, sym, refl, ap, ◌∙◌, append_assoc, arith, length-append, ne_eqb, digit_glyph, digits_onto, digits, nat_tests, bytes_eq-Decides, Item, pairs_or_dash, joined_by_spaces, and_then, items_of, lines, words, item_on, is_later, name_of, item_lines, most_items, MOST_CDB_LENGTH, MOST_LETTERS, MOST_LINE_BYTES, PARAMETER_LIST_LENGTH}
+use Rattle.std.proofs.Common.{eqb, add-zero, le-ltb}
 use Rattle.pr_cdb.specs.declared.codes.TheConstants.{MOST_DATA_LENGTH}
 use Rattle.pr_cdb.specs.declared.reply.Reply.{Reply}
 use Rattle.pr_cdb.specs.declared.reply.Status.{Status}
@@ -18,9 +18,6 @@ use Rattle.pr_trace.specs.TraceReadings.{entry_on, is_reset_on}
 use Rattle.pr_trace.proofs.lemmas.TraceReadings.SolidWords.{solid_by, AreSolid, IsWord, bare, bytes_word, digits_word, line_back, spaced_none, spaced_word, words_back}
 use Rattle.pr_trace.proofs.lemmas.TraceLaws.Words.{bytes_back, data_are_bytes, data_short, same_bytes, sense_back, status_back}
 use Rattle.pr_trace.proofs.lemmas.TraceReadings.ScenarioNames.{AreNames, name_of_word, number_back}
-
-no_more : (m n : ℕ) → n ≤ m → nat_lt m n ≡ false
-no_more m n h = grind (arith, nat_tests)
 
 data_bounded : (version n : ℕ) → n ≤ most_data version → n ≤ MOST_DATA_LENGTH
 data_bounded version n h = omega (arith, h, most_fits version)
@@ -70,7 +67,7 @@ unfolding item_on is_reset_on
 reset_back version names index has h =
     let short : length (decimal index ++ codes " reset") ≤ MOST_LINE_BYTES = omega (arith, length-append (decimal index) (codes " reset"), (digits_word 10 index).short) in
     ap (item_on version names index) (reset_bare index)
-    ∙ rw (no_more (most_items version) index h, no_more MOST_LINE_BYTES (length (decimal index ++ codes " reset")) short, has, same_bytes (decimal index ++ codes " reset")) refl
+    ∙ rw (le-ltb (most_items version) index h, le-ltb MOST_LINE_BYTES (length (decimal index ++ codes " reset")) short, has, same_bytes (decimal index ++ codes " reset")) refl
 
 none_of : (a b : Bool) → (b ≡ true → ⊥) → (a && b) ≡ false
 none_of true true none = absurd (none refl)
@@ -138,8 +135,8 @@ module _ (version : ℕ) (names : List (List ℕ)) (e : Entry) (are : AreNames n
   unfolding item_on is_reset_on
   sent_back index h =
       rw (
-        no_more (most_items version) index h,
-        no_more MOST_LINE_BYTES (length (bare (decimal index) (others_of names e))) (bare_short index),
+        le-ltb (most_items version) index h,
+        le-ltb MOST_LINE_BYTES (length (bare (decimal index) (others_of names e))) (bare_short index),
         none_of (has_resets version) (bytes_eq (bare (decimal index) (others_of names e)) (decimal index ++ codes " reset")) (no_reset index),
         entry_back index,
       ) refl

@@ -1,10 +1,10 @@
 -- What a command is answered can be written in a trace: bytes that are not too many, and a sense whose fields are in range.
-use Rattle.pr_trace.proofs.Common.{◌≡◌, ℕ, zero, suc, ◌+◌, ◌*◌, ◌%◌, ◌<◌, ◌≤◌, Bool, true, false, ◌&&◌, List, [], ◌∷◌, ◌++◌, length, nat_lt, nat_le, ◌==◌, slice_index, Some, None, Ok, Err, Option, Result, if◌then◌else◌, sym, refl, subst, arith, nat_tests}
+use Rattle.pr_trace.proofs.Common.{◌≡◌, ℕ, zero, suc, ◌+◌, ◌*◌, ◌%◌, ◌<◌, ◌≤◌, Bool, true, false, ◌&&◌, List, [], ◌∷◌, ◌++◌, length, nat_lt, ◌==◌, slice_index, Some, None, Ok, Err, Option, Result, if◌then◌else◌, sym, refl, subst, arith}
 use Rattle.std.specs.Prelude.{◌||◌, not, take, IsTrue, is_none}
 use Rattle.std.specs.Option.{option_map_or}
 use Rattle.std.specs.FinMap as finmap
 use Rattle.std.specs.Int.{w32, w64, to_be_bytes}
-use Rattle.std.proofs.Common.{flat_map}
+use Rattle.std.proofs.Common.{flat_map, le-leb}
 use Rattle.pr_cdb.specs.declared.codes.TheConstants.{NO_SENSE, NO_ADDITIONAL_SENSE_INFORMATION, REQUEST_SENSE, INQUIRY, PERSISTENT_RESERVE_IN, PERSISTENT_RESERVE_OUT, REPORT_LUNS, REPORT_CAPABILITIES, REGISTER_AND_IGNORE_EXISTING_KEY, DESC, INVALID_FIELD_IN_CDB, INVALID_FIELD_IN_PARAMETER_LIST, INVALID_RELEASE_OF_PERSISTENT_RESERVATION, LOGICAL_BLOCK_ADDRESS_OUT_OF_RANGE, PARAMETER_LIST_LENGTH, FIXED_SENSE_LENGTH}
 use Rattle.pr_cdb.specs.declared.command.Kind.{Kind}
 use Rattle.pr_cdb.specs.declared.command.Command.{Command}
@@ -228,24 +228,21 @@ pub record IsReply (version : ℕ) (r : Reply) : Type 0 where
   pub status : IsTrue (has_status version r.status)
   pub sense : HasSense r.status r.sense
 
-has : (version since : ℕ) → since ≤ version → nat_le since version ≡ true
-has version since late = grind (arith, nat_tests)
-
 module _ (version : ℕ) (there : 1 ≤ version) where
   good_is : (bytes : List ℕ) → AreData (most_data version) bytes → IsReply version (good bytes)
-  good_is bytes are = record { bytes = are; status = has version 1 there; sense = tt }
+  good_is bytes are = record { bytes = are; status = le-leb 1 version there; sense = tt }
 
   check_is : (s : Sense) → IsSense s → IsReply version (check s)
-  check_is s is = record { bytes = no_data version; status = has version 1 there; sense = (is.key, is.asc, is.ascq) }
+  check_is s is = record { bytes = no_data version; status = le-leb 1 version there; sense = (is.key, is.asc, is.ascq) }
 
   conflict_is : IsReply version conflict
-  conflict_is = record { bytes = no_data version; status = has version 1 there; sense = tt }
+  conflict_is = record { bytes = no_data version; status = le-leb 1 version there; sense = tt }
 
   pub busy_is : 2 ≤ version → IsReply version busy
-  busy_is late = record { bytes = no_data version; status = has version 2 late; sense = tt }
+  busy_is late = record { bytes = no_data version; status = le-leb 2 version late; sense = tt }
 
   pub full_is : 2 ≤ version → IsReply version full
-  full_is late = record { bytes = no_data version; status = has version 2 late; sense = tt }
+  full_is late = record { bytes = no_data version; status = le-leb 2 version late; sense = tt }
 
   report_is : (q : Request) (code : ℕ) → is_attention code ≡ true → IsReply version (report q code)
   report_is q code is = at (is_request_sense q) (attention_is code is)

@@ -1,10 +1,12 @@
 -- Words that were written are read back.
-use Rattle.pr_trace.proofs.Common.{◌≡◌, ℕ, zero, suc, ◌+◌, ◌/◌, ◌%◌, ◌<◌, ◌≤◌, true, false, List, [], ◌∷◌, length, nat_le, slice_index, Some, None, codes, Option, bytes_eq, refl, ap, inl, inr, arith, ne_eqb, digit_glyph, cases_lt, nat_tests, bytes_eq-Decides, pairs_in, pairs_or_dash, pairs}
+use Rattle.pr_trace.proofs.Common.{◌≡◌, ℕ, zero, suc, ◌+◌, ◌/◌, ◌%◌, ◌<◌, ◌≤◌, true, false, List, [], ◌∷◌, length, slice_index, Some, None, codes, Option, bytes_eq, refl, ap, inl, inr, arith, ne_eqb, digit_glyph, cases_lt, nat_tests, bytes_eq-Decides, pairs_in, pairs_or_dash, pairs}
+use Rattle.std.proofs.lemmas.Bool.{le-leb, lt-leb}
 use Rattle.pr_cdb.specs.declared.reply.Sense.{Sense}
 use Rattle.pr_cdb.specs.declared.reply.Status.{Status}
 use Rattle.pr_cdb.specs.declared.reply.Status.TheVariants.{Good, CheckCondition, Conflict, Busy, TaskFull}
 use Rattle.pr_cdb.specs.Requests.{AreBytes}
-use Rattle.pr_cdb.specs.ReplyData.{sense_bytes, sense_in}
+use Rattle.pr_cdb.specs.ReplyData.{sense_bytes}
+use Rattle.pr_cdb.proofs.lemmas.ReplyRoundTrip.{sense_in-sense_bytes}
 use Rattle.pr_trace.specs.Versions.{has_status}
 use Rattle.pr_trace.specs.TraceText.{sense_data, status_word}
 use Rattle.pr_trace.specs.TraceLaws.{HasSense}
@@ -22,18 +24,12 @@ glyph_low d h = grind (arith, nat_tests)
 glyph_high : (d : ℕ) → 10 ≤ d → digit_glyph false d ≡ 87 + d
 glyph_high d h = grind (arith, nat_tests)
 
-le_true : (m n : ℕ) → m ≤ n → nat_le m n ≡ true
-le_true m n h = grind (arith, nat_tests)
-
-le_false : (m n : ℕ) → n < m → nat_le m n ≡ false
-le_false m n h = grind (arith, nat_tests)
-
 digit_value_low : (b d : ℕ) → b ≡ 48 + d → d < 10 → digit_value b ≡ Some d
-digit_value_low b d e h = rw (le_true 48 b (omega arith), le_true b 57 (omega arith)) (ap (λ n. Some n) (omega arith))
+digit_value_low b d e h = rw (le-leb 48 b (omega arith), le-leb b 57 (omega arith)) (ap (λ n. Some n) (omega arith))
 
 digit_value_high : (b d : ℕ) → b ≡ 87 + d → 10 ≤ d → d < 16 → digit_value b ≡ Some d
 digit_value_high b d e h k =
-    rw (le_true 48 b (omega arith), le_false b 57 (omega arith), le_true 97 b (omega arith), le_true b 102 (omega arith)) (ap (λ n. Some n) (omega arith))
+    rw (le-leb 48 b (omega arith), lt-leb b 57 (omega arith), le-leb 97 b (omega arith), le-leb b 102 (omega arith)) (ap (λ n. Some n) (omega arith))
 
 digit_value_back : (d : ℕ) → d < 16 → digit_value (digit_glyph false d) ≡ Some d
 digit_value_back d h = elim (cases_lt d 10) [
@@ -69,15 +65,9 @@ pub status_back : (version : ℕ) (t : Status) → has_status version t ≡ true
 status_back version Good h = rw h refl
 status_back version _ h = rw h refl
 
-sense_whole : (s : Sense) → s.key < 16 → sense_in (sense_bytes s) ≡ Some s
-unfolding sense_in sense_bytes
-sense_whole s h =
-    let same : s.key % 16 % 16 ≡ s.key = omega arith in
-    ap (λ k. Some (record { key = k; asc = s.asc; ascq = s.ascq })) same
-
 pub sense_back : (t : Status) (s : Option Sense) → HasSense t s → sense_under t (sense_data s) ≡ Some s
 sense_back Good None h = refl
-sense_back CheckCondition (Some s) h = rw (sense_whole s h.0, same_bytes (sense_bytes s)) refl
+sense_back CheckCondition (Some s) h = rw (sense_in-sense_bytes s h.0, same_bytes (sense_bytes s)) refl
 sense_back Conflict None h = refl
 sense_back Busy None h = refl
 sense_back TaskFull None h = refl

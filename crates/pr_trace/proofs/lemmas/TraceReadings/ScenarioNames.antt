@@ -1,8 +1,8 @@
 -- The names of a scenario, as words of a trace.
-use Rattle.pr_trace.proofs.Common.{◌≡◌, ℕ, zero, suc, ◌<◌, ◌≤◌, Bool, true, false, cond, ◌&&◌, List, [], ◌∷◌, map, length, get_or, nat_lt, nat_le, ◌==◌, Some, None, bytes_eq, sym, refl, subst, inl, inr, arith, position_or_len, cases_lt, nat_tests, bytes_eq-Decides, MOST_NEXUSES, names_in, name_of, MOST_LETTERS}
-use Rattle.std.specs.Prelude.{◌||◌, not}
+use Rattle.pr_trace.proofs.Common.{◌≡◌, ℕ, zero, suc, ◌<◌, ◌≤◌, Bool, true, false, cond, ◌&&◌, List, [], ◌∷◌, map, length, get_or, nat_lt, nat_le, ◌==◌, Some, None, bytes_eq, sym, refl, subst, inl, inr, arith, position_or_len, cases_lt, nat_tests, bytes_eq-Decides, MOST_NEXUSES, names_in, name_of, MOST_LETTERS, lt-ltb}
+use Rattle.std.specs.Prelude.{not}
 use Rattle.std.specs.List.{list_all, list_any}
-use Rattle.std.proofs.lemmas.Bool.{and_parts, lt-ltb}
+use Rattle.std.proofs.lemmas.Bool.{and_parts, or_parts, not-true}
 use Rattle.std.proofs.lemmas.List.{get_or_past, length-map}
 use Rattle.std.proofs.lemmas.List.Sums.{position_or_len_is}
 use Rattle.pr_script.specs.Names.{is_name, is_name_byte}
@@ -45,18 +45,10 @@ name_of_word names h are = elim (cases_lt h (length names)) [
 
 -- ---- which name it is
 
-or_false : (x y : Bool) → (x || y) ≡ false → (x ≡ false) × (y ≡ false)
-or_false true y h = cc
-or_false false y h = (refl, h)
-
-not_true : (x : Bool) → not x ≡ true → x ≡ false
-not_true true h = cc
-not_true false h = refl
-
 any_none : (p : List ℕ → Bool) (xs : List (List ℕ)) (i : ℕ) (d : List ℕ) → list_any p xs ≡ false → i < length xs → p (get_or xs i d) ≡ false
 any_none p [] i d h k = absurd (omega arith)
-any_none p (x ∷ xs) zero d h k = (or_false (p x) (list_any p xs) h).0
-any_none p (x ∷ xs) (suc i) d h k = any_none p xs i d (or_false (p x) (list_any p xs) h).1 (omega arith)
+any_none p (x ∷ xs) zero d h k = (or_parts (p x) (list_any p xs) h).0
+any_none p (x ∷ xs) (suc i) d h k = any_none p xs i d (or_parts (p x) (list_any p xs) h).1 (omega arith)
 
 differ : (v w : List ℕ) → bytes_eq w v ≡ false → bytes_eq v w ≡ false
 differ v w h = elim (bytes_eq v w) as (λ b. bytes_eq v w ≡ b → bytes_eq v w ≡ false) [
@@ -69,7 +61,7 @@ names_apart [] j h e k m = absurd (omega arith)
 names_apart (x ∷ xs) j zero e k m = absurd (omega arith)
 names_apart (x ∷ xs) zero (suc h) e k m =
     let p = and_parts (not (list_any (λ y. bytes_eq y x) xs)) (are_distinct bytes_eq xs) e in
-    differ x (get_or xs h []) (any_none (λ y. bytes_eq y x) xs h [] (not_true (list_any (λ y. bytes_eq y x) xs) p.0) (omega arith))
+    differ x (get_or xs h []) (any_none (λ y. bytes_eq y x) xs h [] (not-true (list_any (λ y. bytes_eq y x) xs) p.0) (omega arith))
 names_apart (x ∷ xs) (suc j) (suc h) e k m =
     names_apart xs j h (and_parts (not (list_any (λ y. bytes_eq y x) xs)) (are_distinct bytes_eq xs) e).1 (omega arith) (omega arith)
 

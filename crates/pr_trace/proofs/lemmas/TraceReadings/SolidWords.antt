@@ -2,7 +2,7 @@
 use Rattle.pr_trace.proofs.Common.{◌≡◌, ℕ, zero, suc, ◌+◌, ◌*◌, ◌/◌, ◌%◌, ◌<◌, ◌≤◌, Bool, true, false, cond, List, [], ◌∷◌, ◌++◌, length, nat_lt, ◌==◌, All, sym, refl, ap, ◌∙◌, append_assoc, append-nil, arith, length-append, ne_eqb, digit_glyph, digits_onto, digits, slice_split, nat_tests, length-slice_split, pairs_or_dash, joined_by_spaces, line, pairs, lines, words}
 use Rattle.std.proofs.Common.{eqb}
 use Rattle.std.specs.List.{list_all}
-use Rattle.std.proofs.lemmas.Bool.{and_parts}
+use Rattle.std.proofs.lemmas.Bool.{and_parts, ltb-true}
 use Rattle.std.proofs.lemmas.List.Elements.{All-cons, All-nil}
 use Rattle.std.proofs.lemmas.List.Splits.{slice_split_at, slice_split_none}
 use Rattle.pr_trace.specs.TraceReadings.{lines_of_parts}
@@ -140,9 +140,6 @@ line_back first others rest h k =
 abbrev pub is_solid : List ℕ → Bool
 is_solid w = list_all (λ b. nat_lt 32 b) w
 
-above : (b : ℕ) → nat_lt 32 b ≡ true → 32 < b
-above b h = grind (arith, nat_tests)
-
 pub solid_by : (w : List ℕ) → is_solid w ≡ true → IsSolid w
 solid_by [] h = tt
-solid_by (b ∷ bs) h = let p = and_parts (nat_lt 32 b) (is_solid bs) h in (above b p.0, solid_by bs p.1)
+solid_by (b ∷ bs) h = let p = and_parts (nat_lt 32 b) (is_solid bs) h in (ltb-true 32 b p.0, solid_by bs p.1)

@@ -4,10 +4,10 @@ use Rattle.std.proofs.Common.{add-one, drop_of_length-le, drop-cons}
 use Rattle.pr_output.specs.PrintedLines.{generation_word, registration_word}
 use Rattle.pr_trace.specs.TraceText.{item_line, ending_line, registration_words, trace_body, trace_text}
 use Rattle.pr_roles.specs.declared.parts.Nexus.{Nexus as NexusPart}
-use Rattle.pr_roles.specs.Scenarios.{nexus_of}
 use Rattle.pr_registry.specs.Registrations.{State, key_of}
 use Rattle.pr_audit.specs.declared.end.End.{End}
 use Rattle.pr_output.proofs.lemmas.Written.Fronts.{wrote_front, wrote_more}
+use Rattle.pr_roles.proofs.lemmas.Fitting.DistinctLists.{names_of_parts}
 use Rattle.pr_trace.proofs.lemmas.FrontsWritten.HeldLines.{held_first, held_front, held_more}
 
 -- the element that a loop is at, and what comes after it
@@ -104,13 +104,9 @@ module _ (version : ℕ) (old new : Option (List ℕ)) where
 
 -- Names.
 
-names_of_nexuses : (ns : List NexusPart) → names_of ns ≡ map (λ n. n.name) (map nexus_of ns)
-names_of_nexuses [] = refl
-names_of_nexuses (n ∷ ns) = ap (λ l. n.name.bytes ∷ l) (names_of_nexuses ns)
-
 pub names_of_scenario : (p : Parts) → names_of p.nexuses.items ≡ names_in (scenario_of p)
 unfolding scenario_of
-names_of_scenario p = names_of_nexuses p.nexuses.items
+names_of_scenario p = sym (names_of_parts p.nexuses.items)
 
 version_of_scenario : (p : Parts) → p.version ≡ (scenario_of p).version
 unfolding scenario_of
