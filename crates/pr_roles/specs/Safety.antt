@@ -23,8 +23,8 @@ KeepsRole s w h =
     (how : How) (v : World) (sends : HostSends s w h how v)
     → is_good sends.reply ≡ true → IsTrue (is_permitted (role s h) w.unit.registry h (Plain sends.command))
 
--- From every allowed start and under every list of events: no host is trapped, none has sent more commands than its budget, and each
--- keeps to its role in what it sends next.
+-- What the headline promises of an accepted scenario. From every allowed start and under every list of events: no host is trapped,
+-- none has sent more commands than its budget, and each keeps to its role in what it sends next.
 unfoldable pub IsSafe : Scenario → Type 0
 IsSafe s =
     (u : UnitState) → IsAllowedStart s u → (es : List Event) (w : World) → Run s (world_from s u) es w

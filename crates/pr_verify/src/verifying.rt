@@ -21,10 +21,10 @@ pub struct Refused {
     pub refusal: Refusal,
 }
 
-/// Verifies the scenario. When it is accepted, then from every start that it declares and under every interleaving of the
-/// scripted hosts' commands with any permitted commands of the guests, no script meets a reply for which it has no arm,
-/// none sends more commands than its budget, and each of its commands that ends GOOD is one that its role permits at that
-/// moment: each of them has an outline that is sound and fits.
+/// Verifies the scenario. The headline: when it is accepted, then from every start that it declares and under every
+/// interleaving of the scripted hosts' commands with any permitted commands of the guests, no script meets a reply for
+/// which it has no arm, none sends more commands than its budget, and each of its commands that ends GOOD is one that its
+/// role permits at that moment (`IsSafe`): each of them has an outline that is sound and fits.
 ///
 /// When it is refused, it is handed back with the first reason that its hosts' least sound outlines show, or since memory
 /// was refused; but for memory, no sound outlines of its hosts fit.
