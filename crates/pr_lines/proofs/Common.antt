@@ -4,5 +4,5 @@ pub use Rattle.std.specs.List.{list_all}
 pub use Rattle.std.proofs.lemmas.Bool.Decides.{nat_tests}
 pub use Rattle.pr_lines.specs.Chain.{each}
 unfoldable pub use Rattle.pr_lines.specs.TextLines.{words}
-pub use Rattle.pr_lines.specs.WordTerms.{digit_value}
+pub use Rattle.pr_script.specs.Digits.{digit_value}
 pub use Rattle.pr_lines.specs.inside.Lists.{each_onto}

@@ -8,7 +8,7 @@ use Rattle.pr_roles.specs.declared.role.Action.TheVariants as action
 use Rattle.pr_roles.specs.declared.role.Condition.{Condition}
 use Rattle.pr_roles.specs.declared.role.Clause.{Clause}
 use Rattle.pr_lines.specs.declared.clauses.TheConstants.{BARE_ACTIONS, CONDITIONS}
-use Rattle.pr_lines.specs.Chain.{◌>>=◌}
+use Rattle.pr_script.specs.Chain.{◌>>=◌}
 use Rattle.pr_lines.specs.Lookups.{lookup}
 use Rattle.pr_lines.specs.TextLines.{only, if_alone}
 use Rattle.pr_lines.specs.WordTerms.{key_or_zero, key_of, kind_of, sense_of}

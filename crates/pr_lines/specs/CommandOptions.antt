@@ -18,7 +18,7 @@ use Rattle.pr_lines.specs.declared.options.CommandOption.{CommandOption}
 use Rattle.pr_lines.specs.declared.options.CommandOption.TheVariants as option
 use Rattle.pr_lines.specs.declared.options.TheConstants.{DIRECTIONS, ACTIONS}
 use Rattle.pr_lines.specs.declared.options.Written.{Written}
-use Rattle.pr_lines.specs.Chain.{◌>>=◌}
+use Rattle.pr_script.specs.Chain.{◌>>=◌}
 use Rattle.pr_lines.specs.Lookups.{lookup}
 use Rattle.pr_lines.specs.WordTerms.{value_after, key_or_zero, kind_of}
 

@@ -5,7 +5,7 @@ use Rattle.pr_cdb.specs.declared.command.Command.{Command}
 use Rattle.pr_cdb.specs.declared.command.Command.TheVariants.{TestUnitReady, RequestSense, Read, Write}
 use Rattle.pr_lines.specs.declared.spelling.ParsedCommand.{ParsedCommand}
 use Rattle.pr_lines.specs.declared.options.Written.{Written}
-use Rattle.pr_lines.specs.Chain.{◌>>=◌}
+use Rattle.pr_script.specs.Chain.{◌>>=◌}
 use Rattle.pr_lines.specs.TextLines.{only, if_alone}
 use Rattle.pr_lines.specs.WordTerms.{amount_of}
 use Rattle.pr_lines.specs.CommandOptions.{no_option, with_options, command_of}

@@ -10,7 +10,8 @@ use Rattle.pr_lines.specs.declared.versions.TheConstants.{VERSIONS}
 use Rattle.pr_lines.specs.declared.item.RefusalKind.{RefusalKind}
 use Rattle.pr_lines.specs.declared.item.RefusalKind.TheVariants as refusal
 use Rattle.pr_lines.specs.declared.spelling.ParsedCommand.{ParsedCommand}
-use Rattle.pr_lines.specs.Chain.{◌>>=◌, each}
+use Rattle.pr_script.specs.Chain.{◌>>=◌}
+use Rattle.pr_lines.specs.Chain.{each}
 use Rattle.pr_lines.specs.Lookups.{lookup}
 use Rattle.pr_lines.specs.TextLines.{character, only, is_end, if_alone}
 use Rattle.pr_lines.specs.WordTerms.{name_of, key_of, generation_of, count_of, kind_of, code_of}

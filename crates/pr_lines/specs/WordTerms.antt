@@ -8,8 +8,9 @@ use Rattle.pr_cdb.specs.Kinds.{kind_of_code}
 use Rattle.pr_attention.specs.Attentions.{code_of as attention_code}
 use Rattle.pr_attention.specs.declared.attention.Attention.{Attention}
 use Rattle.pr_attention.specs.declared.attention.Attention.TheVariants.{PowerOn, ReservationsPreempted, ReservationsReleased, RegistrationsPreempted}
-use Rattle.pr_script.specs.Names.{is_digit, is_name}
-use Rattle.pr_lines.specs.Chain.{◌>>=◌}
+use Rattle.pr_script.specs.Chain.{◌>>=◌}
+use Rattle.pr_script.specs.Digits.{digit_value, digit_of, byte_of}
+use Rattle.pr_script.specs.Names.{is_name}
 use Rattle.pr_lines.specs.TextLines.{character}
 
 -- the name that a word is: that of a nexus, or the word with which a script stops
@@ -18,24 +19,10 @@ name_of word = if is_name word then Some word else None
 
 -- ---- digits
 
--- what a digit is worth, in either case of its letters, and 16 where it is none
-abbrev pub digit_value : ℕ → ℕ
-digit_value b =
-    if is_digit b then b - 48 else (
-    if nat_le 97 b && nat_le b 102 then b - 87 else (
-    if nat_le 65 b && nat_le b 70 then b - 55 else 16))
-
 -- the number that these digits write to this base, the highest digit first
 unfoldable pub number : ℕ → List ℕ → Option ℕ
 number base digits =
     if list_all (λ b. nat_lt (digit_value b) base) digits then Some (fold (λ n b. base * n + digit_value b) 0 digits) else None
-
--- a digit, and two digits, to the base 16
-abbrev pub digit_of : ℕ → Option ℕ
-digit_of b = if nat_lt (digit_value b) 16 then Some (digit_value b) else None
-
-abbrev pub byte_of : ℕ → ℕ → Option ℕ
-byte_of high low = digit_of high >>= λ h. digit_of low >>= λ l. Some (16 * h + l)
 
 -- ---- numbers
 

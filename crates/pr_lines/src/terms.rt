@@ -1,7 +1,7 @@
 //! The terms that words are: names, keys, numbers, types and codes.
 
 ghost use Rattle.std.specs.Prelude.{◌≡◌, ◌≤◌, ◌<◌, ◌^◌, length, option_map, option_copied, IfSome};
-ghost use Rattle.pr_lines.specs.WordTerms.{digit_value, number, digit_of, byte_of, value_after, without_prefix, hexadecimal, name_of, key_or_zero, key_of, generation_of, count_of, amount_of, kind_of, attention_of, code_of, sense_of};
+ghost use Rattle.pr_lines.specs.WordTerms.{number, value_after, without_prefix, hexadecimal, name_of, key_or_zero, key_of, generation_of, count_of, amount_of, kind_of, attention_of, code_of, sense_of};
 
 use pr_attention::Attention;
 use pr_cdb::codes::{
@@ -9,7 +9,7 @@ use pr_cdb::codes::{
 };
 use pr_cdb::{Kind, Sense};
 use pr_roles::Word;
-use pr_script::is_name;
+use pr_script::{byte_of, digit_of, digit_value, is_name};
 
 /// The name that the word is: 1 to 16 lower case letters, digits and hyphens, a letter first.
 #[tactic(auto, unfolding(crate::specs::WordTerms::name_of), using(crate::proofs::lemmas::WordTerms::NameText::name_is_text, crate::proofs::lemmas::WordTerms::NameText::name_is_short))]
@@ -128,40 +128,6 @@ fn number(base: u64, digits: &[u8]) -> Option<u64>
         value = base * value + digit_value;
     }
     Some(value)
-}
-
-// What a digit is worth, and 16 where it is none.
-fn digit_value(digit: u8) -> u8
-    ensures { result ≡ digit_value digit }
-{
-    match digit {
-        b'0'..=b'9' => digit - b'0',
-        b'a'..=b'f' => digit - b'a' + 10,
-        b'A'..=b'F' => digit - b'A' + 10,
-        _ => 16,
-    }
-}
-
-// The number that one hexadecimal digit writes.
-fn digit_of(digit: u8) -> Option<u8>
-    ensures value { result ≡ digit_of digit }
-    ensures below { IfSome result (λ n. n < 16) }
-{
-    let digit_value = digit_value(digit);
-    if digit_value < 16 {
-        Some(digit_value)
-    } else {
-        None
-    }
-}
-
-// The number that two hexadecimal digits write.
-fn byte_of(high: u8, low: u8) -> Option<u8>
-    ensures { result ≡ byte_of high low }
-{
-    let high = digit_of(high)?;
-    let low = digit_of(low)?;
-    Some(16 * high + low)
 }
 
 /// The type of a reservation that the word is, by its number.

@@ -8,6 +8,8 @@ pub mod Depths
 pub mod Next
 pub mod Limits
 pub mod Names
+pub mod Chain
+pub mod Digits
 pub mod Grammar
 pub mod Versions
 pub mod Laws

@@ -11,6 +11,7 @@ mod advance;
 mod compile;
 mod counts;
 mod depth;
+mod digits;
 mod grammar;
 mod landing;
 mod laws;
@@ -26,6 +27,7 @@ mod sizes;
 mod versions;
 
 pub use depth::repeat_depth;
+pub use digits::{byte_of, digit_of, digit_value};
 pub use grammar::{
     WRITTEN_LENGTH, is_declared, is_test_declared, is_written, is_written_key, stands_under,
 };

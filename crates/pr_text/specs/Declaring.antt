@@ -12,7 +12,7 @@ use Rattle.pr_script.specs.Grammar.{is_written, is_written_key}
 use Rattle.pr_lines.specs.declared.item.RefusalKind.{RefusalKind}
 use Rattle.pr_lines.specs.declared.item.RefusalKind.TheVariants as refusal
 use Rattle.pr_lines.specs.declared.spelling.ParsedCommand.{ParsedCommand}
-use Rattle.pr_lines.specs.Chain.{◌>>=◌}
+use Rattle.pr_script.specs.Chain.{◌>>=◌}
 use Rattle.pr_text.specs.Declarations.{Declaration, Declared}
 use Rattle.pr_lines.specs.ScenarioLines.{StartReservation, nobody, single, everybody}
 

@@ -11,29 +11,19 @@ use Rattle.pr_cdb.specs.declared.wire.Wire.{Wire}
 use Rattle.pr_cdb.specs.ReplyData.{sense_bytes, sense_in}
 use Rattle.pr_cdb.specs.Spelling.{wire_of}
 use Rattle.pr_unit.specs.Replies.{reply_of}
-use Rattle.pr_script.specs.Names.{is_digit, is_name}
+use Rattle.pr_script.specs.Digits.{byte_of}
+use Rattle.pr_script.specs.Names.{is_name}
 use Rattle.pr_trace.specs.Versions.{has_status, most_data}
 use Rattle.pr_trace.specs.TraceText.{status_word}
-use Rattle.pr_trace.specs.Chain.{◌>>=◌}
+use Rattle.pr_script.specs.Chain.{◌>>=◌}
 
 -- ---- bytes
-
--- what a hexadecimal digit is worth, in either case of its letters
-abbrev pub digit_value : ℕ → Option ℕ
-digit_value b =
-    if is_digit b then Some (b - 48) else (
-    if nat_le 97 b && nat_le b 102 then Some (b - 87) else (
-    if nat_le 65 b && nat_le b 70 then Some (b - 55) else None))
-
--- the byte that two digits write
-abbrev pub byte_in : ℕ → ℕ → Option ℕ
-byte_in high low = digit_value high >>= λ h. digit_value low >>= λ l. Some (16 * h + l)
 
 -- the bytes that pairs of digits write
 abbrev pub pairs_in : List ℕ → Option (List ℕ)
 pairs_in [] = Some []
 pairs_in (d ∷ []) = None
-pairs_in (h ∷ l ∷ ds) = byte_in h l >>= λ b. pairs_in ds >>= λ bs. Some (b ∷ bs)
+pairs_in (h ∷ l ∷ ds) = byte_of h l >>= λ b. pairs_in ds >>= λ bs. Some (b ∷ bs)
 
 -- the bytes that a word writes: `-` for none, or pairs of digits for 1 to so many
 unfoldable pub bytes_in : ℕ → List ℕ → Option (List ℕ)

@@ -1,7 +1,6 @@
 pub mod Versions
 pub mod TraceText
 pub mod Traces
-pub mod Chain
 pub mod EntryWords
 pub mod BytesTaken
 pub mod TraceReadings

@@ -5,7 +5,7 @@ ghost use Rattle.pr_cdb.specs.declared.codes.TheConstants.{MOST_NEXUSES};
 ghost use Rattle.pr_trace.specs.TraceText.{names_of};
 ghost use Rattle.std.specs.Fmt.{decimal};
 ghost use Rattle.pr_trace.specs.declared.versions.TheConstants.{MOST_ITEMS_2};
-ghost use Rattle.pr_trace.specs.EntryWords.{byte_in, bytes_in, sense_of, sense_under, no_sense_in, digit_value};
+ghost use Rattle.pr_trace.specs.EntryWords.{bytes_in, sense_of, sense_under, no_sense_in};
 ghost use Rattle.pr_script.specs.Names.{is_name};
 ghost use Rattle.pr_trace.specs.TraceReadings.{item_on, is_reset_on, number_of, words, sent_on};
 ghost use Rattle.pr_trace.specs.inside.SevenWords.{answer_in, AreSeven, TakesFirst, TellsBytes};
@@ -19,7 +19,7 @@ use itoa::Buffer;
 use pr_cdb::codes::{FIXED_SENSE_LENGTH, MOST_CDB_LENGTH, PARAMETER_LIST_LENGTH};
 use pr_cdb::{Reply, Sense, Status, Wire, decode_sense, encode_sense};
 use pr_roles::{Entry, Item, Nexus};
-use pr_script::is_name;
+use pr_script::{byte_of, is_name};
 
 // The words of an entry's line.
 #[derive(Clone, Copy)]
@@ -221,7 +221,7 @@ fn bytes_into<const N: usize>(most: usize, word: &[u8], bytes: &mut ArrayVec<u8,
         return false;
     }
     for pair in pairs {
-        let Some(byte) = byte_in(pair[0], pair[1]) else {
+        let Some(byte) = byte_of(pair[0], pair[1]) else {
             return false;
         };
         bytes.push(byte);
@@ -233,25 +233,6 @@ fn is_dash(word: &[u8]) -> bool
     ensures { result ≡ bytes_eq word.now (codes "-") }
 {
     word.len() == 1 && word[0] == b'-'
-}
-
-fn byte_in(high: u8, low: u8) -> Option<u8>
-    ensures { result ≡ byte_in high low }
-{
-    Some(16 * digit_value(high)? + digit_value(low)?)
-}
-
-// What a hexadecimal digit is worth, in either case of its letters.
-fn digit_value(digit: u8) -> Option<u8>
-    ensures value { result ≡ digit_value digit }
-    ensures below { IfSome result (λ n. n < 16) }
-{
-    match digit {
-        b'0'..=b'9' => Some(digit - b'0'),
-        b'a'..=b'f' => Some(digit - b'a' + 10),
-        b'A'..=b'F' => Some(digit - b'A' + 10),
-        _ => None,
-    }
 }
 
 /// The number of the nexus with this name, as a trace or the steps of a replay have it.

@@ -3,7 +3,7 @@ use Rattle.std.specs.Prelude.{ℕ, List, Option, Some, option_map, None, true, f
 use Rattle.pr_lines.specs.declared.item.RefusalKind.TheVariants as refusal
 use Rattle.pr_lines.specs.declared.keyword.Keyword.{Keyword}
 use Rattle.pr_lines.specs.declared.keyword.Keyword.TheVariants as keyword
-use Rattle.pr_lines.specs.Chain.{◌>>=◌}
+use Rattle.pr_script.specs.Chain.{◌>>=◌}
 use Rattle.pr_lines.specs.Clauses.{clause_of, test_of}
 use Rattle.pr_lines.specs.CommandWords.{spelled_of, spelled_in}
 use Rattle.pr_lines.specs.ScenarioLines.{ScenarioLine, keys_line, nexus_line, reservation_line, generation_line, resets_line, plan_line, end_line, send_line, on_line, done_line, repeat_line, break_line, stop_line, command_line, list_of, start_reservation_of, only_name, only_count, parse_fence, start_line, pending_line, refusals_line, role_line, script_line, alternative_of, budget_in, parse_of_name, declares, states}

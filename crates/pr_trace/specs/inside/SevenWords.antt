@@ -5,7 +5,7 @@ use Rattle.pr_trace.specs.declared.entry_reading.EntryWords.{EntryWords}
 use Rattle.pr_cdb.specs.declared.codes.TheConstants.{FIXED_SENSE_LENGTH}
 use Rattle.pr_cdb.specs.declared.reply.Sense.{Sense}
 use Rattle.pr_cdb.specs.declared.reply.Status.{Status}
-use Rattle.pr_trace.specs.Chain.{◌>>=◌}
+use Rattle.pr_script.specs.Chain.{◌>>=◌}
 use Rattle.pr_trace.specs.EntryWords.{bytes_in, sense_under, status_in}
 use Rattle.pr_trace.specs.TraceReadings.{words}
 

@@ -15,7 +15,8 @@ use Rattle.pr_lines.specs.declared.keyword.Keyword.{Keyword}
 use Rattle.pr_lines.specs.declared.keyword.Keyword.TheVariants as keyword
 use Rattle.pr_lines.specs.declared.versions.TheConstants.{VERSIONS}
 use Rattle.pr_lines.specs.TextLines.{character, only, is_end, if_alone}
-use Rattle.pr_lines.specs.WordTerms.{number, digit_of, byte_of, without_prefix, hexadecimal, name_of, key_or_zero, key_of, kind_of, code_of, count_of, generation_of, sense_of}
+use Rattle.pr_script.specs.Digits.{digit_of, byte_of}
+use Rattle.pr_lines.specs.WordTerms.{number, without_prefix, hexadecimal, name_of, key_or_zero, key_of, kind_of, code_of, count_of, generation_of, sense_of}
 use Rattle.pr_lines.specs.CommandWords.{spelled_of, spelled_in}
 use Rattle.pr_lines.specs.Clauses.{clause_of, good_of, test_of}
 use Rattle.pr_lines.specs.Lookups.{lookup}

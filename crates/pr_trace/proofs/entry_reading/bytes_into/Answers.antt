@@ -22,11 +22,11 @@ pub returns-in_default : goal.returns-in_default
 returns-in_default g c =
     bytes_none c.args.most c.args.word.now (sym c.is_dash.ensures ∙ c.if-is_dash.false)
     (no_pair_there c.args.word.now c.loop-pair.bytes.items c.as_chunks.result.0.now c.loop-pair.pair-index c.as_chunks.ensures.front (omega (arith, c.loop-pair-test.true, c.as_chunks.ensures.front_len))
-    c.loop-pair.invariant.0 (sym c.byte_in.ensures ∙ c.in_default.is))
+    c.loop-pair.invariant.0 (sym c.byte_of.ensures ∙ c.in_default.is))
 
 pub loop-pair-preserved : goal.loop-pair-preserved
 loop-pair-preserved g c = (
   next_pair c.args.word.now c.loop-pair.bytes.items c.as_chunks.result.0.now c.loop-pair.pair-index c.as_chunks.ensures.front (omega (arith, c.loop-pair-test.true, c.as_chunks.ensures.front_len))
-      c.in-Some.byte c.push.new.self.items c.loop-pair.invariant.0 (sym c.byte_in.ensures ∙ c.in-Some.is) c.push.ensures.items,
+      c.in-Some.byte c.push.new.self.items c.loop-pair.invariant.0 (sym c.byte_of.ensures ∙ c.in-Some.is) c.push.ensures.items,
   omega (arith, c.loop-pair.invariant.1, ap length c.push.ensures.items, length-append c.loop-pair.bytes.items (c.in-Some.byte ∷ [])),
 )

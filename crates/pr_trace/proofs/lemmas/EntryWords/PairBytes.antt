@@ -3,8 +3,9 @@ use Rattle.pr_trace.proofs.Common.{◌≡◌, ℕ, zero, suc, ◌+◌, ◌*◌, 
 use Rattle.std.specs.Simd.{first_chunks}
 use Rattle.std.proofs.Common.{◌⊎◌, drop-drop, option_map}
 use Rattle.std.proofs.lemmas.Option.{same_Some}
-use Rattle.pr_trace.specs.Chain.{◌>>=◌}
-use Rattle.pr_trace.specs.EntryWords.{byte_in, bytes_in}
+use Rattle.pr_script.specs.Chain.{◌>>=◌}
+use Rattle.pr_script.specs.Digits.{byte_of}
+use Rattle.pr_trace.specs.EntryWords.{bytes_in}
 
 -- what stands in front of the bytes that the other pairs write
 abbrev pub onto : List ℕ → Option (List ℕ) → Option (List ℕ)
@@ -18,17 +19,17 @@ onto_more : (items : List ℕ) (b : ℕ) (o : Option (List ℕ)) → onto items 
 onto_more items b None = refl
 onto_more items b (Some others) = ap (λ l. Some l) (sym (append_assoc items (b ∷ []) others))
 
-first_pair : (rest : List ℕ) → 2 ≤ length rest → pairs_in rest ≡ (byte_in (get_or rest 0 0) (get_or rest 1 0) >>= λ b. pairs_in (drop 2 rest) >>= λ bs. Some (b ∷ bs))
+first_pair : (rest : List ℕ) → 2 ≤ length rest → pairs_in rest ≡ (byte_of (get_or rest 0 0) (get_or rest 1 0) >>= λ b. pairs_in (drop 2 rest) >>= λ bs. Some (b ∷ bs))
 first_pair [] h = absurd (omega arith)
 first_pair (d ∷ []) h = absurd (omega arith)
 first_pair (x ∷ y ∷ ds) h = refl
 
 -- one pair more
-pub pair_more : (items rest : List ℕ) (b : ℕ) → 2 ≤ length rest → byte_in (get_or rest 0 0) (get_or rest 1 0) ≡ Some b → onto items (pairs_in rest) ≡ onto (items ++ b ∷ []) (pairs_in (drop 2 rest))
+pub pair_more : (items rest : List ℕ) (b : ℕ) → 2 ≤ length rest → byte_of (get_or rest 0 0) (get_or rest 1 0) ≡ Some b → onto items (pairs_in rest) ≡ onto (items ++ b ∷ []) (pairs_in (drop 2 rest))
 pair_more items rest b h e = ap (onto items) (first_pair rest h) ∙ rw e (onto_more items b (pairs_in (drop 2 rest)))
 
 -- no byte in the next pair
-pub pair_bad : (items rest : List ℕ) → 2 ≤ length rest → byte_in (get_or rest 0 0) (get_or rest 1 0) ≡ None → onto items (pairs_in rest) ≡ None
+pub pair_bad : (items rest : List ℕ) → 2 ≤ length rest → byte_of (get_or rest 0 0) (get_or rest 1 0) ≡ None → onto items (pairs_in rest) ≡ None
 pair_bad items rest h e = ap (onto items) (first_pair rest h) ∙ rw e refl
 
 -- ---- how many
@@ -82,15 +83,15 @@ module _ (word items : List ℕ) (pairs : List (List ℕ)) (i : ℕ) (cut : pair
   pair_is : get_or pairs i [] ≡ take 2 (drop (2 * i) word)
   pair_is = ap (λ ps. get_or ps i []) cut ∙ pair_at (length word / 2) i word before (omega arith)
 
-  byte_is : byte_in (get_or (get_or pairs i []) 0 0) (get_or (get_or pairs i []) 1 0) ≡ byte_in (get_or (drop (2 * i) word) 0 0) (get_or (drop (2 * i) word) 1 0)
+  byte_is : byte_of (get_or (get_or pairs i []) 0 0) (get_or (get_or pairs i []) 1 0) ≡ byte_of (get_or (drop (2 * i) word) 0 0) (get_or (drop (2 * i) word) 1 0)
   byte_is = let digits = digits_of (drop (2 * i) word) there in rw (pair_is, digits.0, digits.1) refl
 
-  pub next_pair : (b : ℕ) (next : List ℕ) → pairs_in word ≡ onto items (pairs_in (drop (2 * i) word)) → byte_in (get_or (get_or pairs i []) 0 0) (get_or (get_or pairs i []) 1 0) ≡ Some b
+  pub next_pair : (b : ℕ) (next : List ℕ) → pairs_in word ≡ onto items (pairs_in (drop (2 * i) word)) → byte_of (get_or (get_or pairs i []) 0 0) (get_or (get_or pairs i []) 1 0) ≡ Some b
       → next ≡ items ++ b ∷ [] → pairs_in word ≡ onto next (pairs_in (drop (2 * (i + 1)) word))
   next_pair b next so_far is more =
       so_far ∙ pair_more items (drop (2 * i) word) b there (sym byte_is ∙ is) ∙ rw (sym more, drop-drop 2 (2 * i) word, (twice i).1) refl
 
-  pub no_pair_there : pairs_in word ≡ onto items (pairs_in (drop (2 * i) word)) → byte_in (get_or (get_or pairs i []) 0 0) (get_or (get_or pairs i []) 1 0) ≡ None → pairs_in word ≡ None
+  pub no_pair_there : pairs_in word ≡ onto items (pairs_in (drop (2 * i) word)) → byte_of (get_or (get_or pairs i []) 0 0) (get_or (get_or pairs i []) 1 0) ≡ None → pairs_in word ≡ None
   no_pair_there so_far is = so_far ∙ pair_bad items (drop (2 * i) word) there (sym byte_is ∙ is)
 
 -- ---- how many there are
@@ -102,9 +103,9 @@ bytes_or (Some bytes) = bytes
 pairs_length : (word bs : List ℕ) → pairs_in word ≡ Some bs → length word ≡ 2 * length bs
 pairs_length [] bs is = omega (arith, ap length (same_Some _ _ is))
 pairs_length (d ∷ []) bs is = let bad : None ≡ Some bs = is in cc
-pairs_length (h ∷ l ∷ ds) bs is = of_byte (pairs_length ds) (byte_in h l) refl (pairs_in ds) refl
+pairs_length (h ∷ l ∷ ds) bs is = of_byte (pairs_length ds) (byte_of h l) refl (pairs_in ds) refl
   where
-    of_byte : ((others : List ℕ) → pairs_in ds ≡ Some others → length ds ≡ 2 * length others) → (b : Option ℕ) → byte_in h l ≡ b → (o : Option (List ℕ)) → pairs_in ds ≡ o → length (h ∷ l ∷ ds) ≡ 2 * length bs
+    of_byte : ((others : List ℕ) → pairs_in ds ≡ Some others → length ds ≡ 2 * length others) → (b : Option ℕ) → byte_of h l ≡ b → (o : Option (List ℕ)) → pairs_in ds ≡ o → length (h ∷ l ∷ ds) ≡ 2 * length bs
     of_byte rest None e o f = let bad : None ≡ Some bs = sym (first_pair (h ∷ l ∷ ds) (omega arith) ∙ rw e refl) ∙ is in cc
     of_byte rest (Some b) e None f = let bad : None ≡ Some bs = sym (first_pair (h ∷ l ∷ ds) (omega arith) ∙ rw (e, f) refl) ∙ is in cc
     of_byte rest (Some b) e (Some others) f =

@@ -1,16 +1,17 @@
 -- Words that were written are read back.
 use Rattle.pr_trace.proofs.Common.{◌≡◌, ℕ, zero, suc, ◌+◌, ◌/◌, ◌%◌, ◌<◌, ◌≤◌, true, false, List, [], ◌∷◌, length, slice_index, Some, None, codes, Option, bytes_eq, refl, ap, inl, inr, arith, ne_eqb, digit_glyph, cases_lt, nat_tests, bytes_eq-Decides, pairs_in, pairs_or_dash, pairs}
-use Rattle.std.proofs.lemmas.Bool.{le-leb, lt-leb}
+use Rattle.std.proofs.lemmas.Bool.{le-leb, lt-leb, lt-ltb}
 use Rattle.pr_cdb.specs.declared.reply.Sense.{Sense}
 use Rattle.pr_cdb.specs.declared.reply.Status.{Status}
 use Rattle.pr_cdb.specs.declared.reply.Status.TheVariants.{Good, CheckCondition, Conflict, Busy, TaskFull}
 use Rattle.pr_cdb.specs.Requests.{AreBytes}
 use Rattle.pr_cdb.specs.ReplyData.{sense_bytes}
 use Rattle.pr_cdb.proofs.lemmas.ReplyRoundTrip.{sense_in-sense_bytes}
+use Rattle.pr_script.specs.Digits.{byte_of, digit_of, digit_value}
 use Rattle.pr_trace.specs.Versions.{has_status}
 use Rattle.pr_trace.specs.TraceText.{sense_data, status_word}
 use Rattle.pr_trace.specs.TraceLaws.{HasSense}
-use Rattle.pr_trace.specs.EntryWords.{byte_in, bytes_in, sense_under, status_in, digit_value}
+use Rattle.pr_trace.specs.EntryWords.{bytes_in, sense_under, status_in}
 use Rattle.pr_trace.proofs.lemmas.EntryWords.PairBytes.{bytes_all, bytes_dash}
 
 pub same_bytes : (w : List ℕ) → bytes_eq w w ≡ true
@@ -24,24 +25,27 @@ glyph_low d h = grind (arith, nat_tests)
 glyph_high : (d : ℕ) → 10 ≤ d → digit_glyph false d ≡ 87 + d
 glyph_high d h = grind (arith, nat_tests)
 
-digit_value_low : (b d : ℕ) → b ≡ 48 + d → d < 10 → digit_value b ≡ Some d
-digit_value_low b d e h = rw (le-leb 48 b (omega arith), le-leb b 57 (omega arith)) (ap (λ n. Some n) (omega arith))
+digit_value_low : (b d : ℕ) → b ≡ 48 + d → d < 10 → digit_value b ≡ d
+digit_value_low b d e h = rw (le-leb 48 b (omega arith), le-leb b 57 (omega arith)) (omega arith)
 
-digit_value_high : (b d : ℕ) → b ≡ 87 + d → 10 ≤ d → d < 16 → digit_value b ≡ Some d
+digit_value_high : (b d : ℕ) → b ≡ 87 + d → 10 ≤ d → d < 16 → digit_value b ≡ d
 digit_value_high b d e h k =
-    rw (le-leb 48 b (omega arith), lt-leb b 57 (omega arith), le-leb 97 b (omega arith), le-leb b 102 (omega arith)) (ap (λ n. Some n) (omega arith))
+    rw (le-leb 48 b (omega arith), lt-leb b 57 (omega arith), le-leb 97 b (omega arith), le-leb b 102 (omega arith)) (omega arith)
 
-digit_value_back : (d : ℕ) → d < 16 → digit_value (digit_glyph false d) ≡ Some d
+digit_value_back : (d : ℕ) → d < 16 → digit_value (digit_glyph false d) ≡ d
 digit_value_back d h = elim (cases_lt d 10) [
   | inl k ↦ digit_value_low (digit_glyph false d) d (glyph_low d k) k
   | inr k ↦ digit_value_high (digit_glyph false d) d (glyph_high d k) k h
 ]
 
+digit_back : (d : ℕ) → d < 16 → digit_of (digit_glyph false d) ≡ Some d
+digit_back d h = rw (digit_value_back d h, lt-ltb d 16 h) refl
+
 glyph_no_dash : (d : ℕ) → digit_glyph false d ≡ 45 → ⊥
 glyph_no_dash d h = grind (arith, nat_tests)
 
-byte_back : (b : ℕ) → b < 256 → byte_in (digit_glyph false (b / 16)) (digit_glyph false (b % 16)) ≡ Some b
-byte_back b h = rw (digit_value_back (b / 16) (omega arith), digit_value_back (b % 16) (omega arith)) (ap (λ n. Some n) (omega arith))
+byte_back : (b : ℕ) → b < 256 → byte_of (digit_glyph false (b / 16)) (digit_glyph false (b % 16)) ≡ Some b
+byte_back b h = rw (digit_back (b / 16) (omega arith), digit_back (b % 16) (omega arith)) (ap (λ n. Some n) (omega arith))
 
 tail_bytes : (b : ℕ) (bs : List ℕ) → AreBytes (b ∷ bs) → AreBytes bs
 tail_bytes b bs h = λ i. h (suc i)

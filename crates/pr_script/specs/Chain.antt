@@ -1,4 +1,4 @@
--- Agrees with docs/FORMATS.md, 'Reading a trace'.
+-- Agrees with docs/FORMATS.md, 'Faults'.
 -- Steps of which each may fail.
 use Rattle.std.specs.Prelude.{Option, option_and_then}
 
