@@ -3,11 +3,11 @@
 ghost use Rattle.std.specs.Prelude.{◌≡◌, option_map};
 ghost use Rattle.std.specs.Result.{result_ok};
 ghost use Rattle.pr_roles.specs.declared.role.Action.TheVariants as action;
-ghost use Rattle.pr_lines.specs.TextLines.{words, if_alone};
+ghost use Rattle.pr_lines.specs.TextLines.{words};
 ghost use Rattle.pr_lines.specs.WordTerms.{key_of, kind_of};
 ghost use Rattle.pr_lines.specs.Clauses.{acting_on, preempt_of, action_named, action_in, condition_in, clause_of, good_of, test_of};
 
-use crate::cutting::{alone, ended, is, next_word, word_in};
+use crate::cutting::{alone, if_alone, is, next_word, word_in};
 use crate::lookup::lookup;
 use crate::misfit::{Misfit, Wanted};
 use crate::terms::{key_of, key_or_zero, kind_of, sense_of};
@@ -165,12 +165,4 @@ fn good_of(line: &[u8]) -> Result<Test, Misfit>
         return if_alone(Test::GoodUnheld, rest);
     }
     Err(Misfit::at(word, rest, Wanted::Good))
-}
-
-// The test, if no word follows it.
-fn if_alone(test: Test, rest: &[u8]) -> Result<Test, Misfit>
-    ensures { result_ok result ≡ if_alone test (words rest.now) }
-{
-    ended(rest)?;
-    Ok(test)
 }

@@ -4,7 +4,7 @@ ghost use Rattle.std.specs.Prelude.{◌≡◌, ◌<◌, [], ◌∷◌, length, i
 ghost use Rattle.std.specs.Result.{result_ok};
 ghost use Rattle.std.specs.List.{before_first, after_first};
 ghost use Rattle.std.specs.Str.Lines.{lines, strip_carriage_return};
-ghost use Rattle.pr_lines.specs.TextLines.{is_text, is_blank, words, only, is_end};
+ghost use Rattle.pr_lines.specs.TextLines.{is_text, is_blank, words, only, is_end, if_alone};
 
 use crate::misfit::{Misfit, Wanted};
 
@@ -141,6 +141,14 @@ pub fn ended(line: &[u8]) -> Result<(), Misfit>
         Some((word, rest)) => Err(Misfit::at(word, rest, Wanted::End)),
         None => Ok(()),
     }
+}
+
+/// This, if no word is left in the line.
+pub fn if_alone<T: Drop>(value: T, line: &[u8]) -> Result<T, Misfit>
+    ensures { result_ok result ≡ if_alone value (words line.now) }
+{
+    ended(line)?;
+    Ok(value)
 }
 
 /// What the word is, where it is something and no word follows it; this was wanted.

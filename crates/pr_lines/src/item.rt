@@ -2,7 +2,7 @@
 
 ghost use Rattle.std.specs.Prelude.{◌≡◌, map, option_map, option_and_then, IfOk};
 ghost use Rattle.std.specs.Result.{result_ok};
-ghost use Rattle.pr_lines.specs.TextLines.{words, only, if_alone};
+ghost use Rattle.pr_lines.specs.TextLines.{words, only};
 ghost use Rattle.pr_lines.specs.WordTerms.{key_of, generation_of, code_of};
 ghost use Rattle.pr_lines.specs.Clauses.{clause_of};
 ghost use Rattle.pr_lines.specs.ScenarioLines.{list_of, alternative_of, everybody_of, single_of, start_reservation_of, name_in, only_name, only_count, budget_in, parse_fence, parse_of_name, item_of, declares, keys_line, start_line, pending_line, refusals_line, reservation_line, role_line, script_line};
@@ -10,7 +10,7 @@ ghost use Rattle.pr_lines.specs.inside.Keywords.{parse_plain, parse_after};
 ghost use Rattle.pr_lines.specs.LineValues.{wanted_seen, line_of_value};
 
 use crate::clauses::{clause_of, test_of};
-use crate::cutting::{alone, ended, is, is_end, next_word, word_in};
+use crate::cutting::{alone, if_alone, is, is_end, next_word, word_in};
 use crate::keyword::{Keyword, keyword_of};
 use crate::lookup::lookup;
 use crate::misfit::{Misfit, Wanted};
@@ -134,6 +134,7 @@ fn parse_after(
 }
 
 // What the words behind a keyword say that takes no list.
+#[tactic(auto, using(crate::proofs::lemmas::TextLines::Cuts::mapped_alone))]
 fn parse_plain(keyword: Keyword, rest: &[u8]) -> Result<ScenarioLine, Misfit>
     ensures { option_map line_of_value (result_ok result) ≡ parse_plain keyword (words rest.now) }
 {
@@ -159,15 +160,6 @@ fn parse_plain(keyword: Keyword, rest: &[u8]) -> Result<ScenarioLine, Misfit>
             Err(Misfit::missing(Wanted::End))
         }
     }
-}
-
-// The item, if no word follows it.
-fn if_alone(item: ScenarioLine, rest: &[u8]) -> Result<ScenarioLine, Misfit>
-    ensures { option_map line_of_value (result_ok result)
-        ≡ if_alone (line_of_value item) (words rest.now) }
-{
-    ended(rest)?;
-    Ok(item)
 }
 
 #[tactic(auto, using(crate::proofs::lemmas::TextLines::Cuts::only_read))]

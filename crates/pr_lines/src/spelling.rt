@@ -2,10 +2,10 @@
 
 ghost use Rattle.std.specs.Prelude.{◌≡◌};
 ghost use Rattle.std.specs.Result.{result_ok};
-ghost use Rattle.pr_lines.specs.TextLines.{words, if_alone};
+ghost use Rattle.pr_lines.specs.TextLines.{words};
 ghost use Rattle.pr_lines.specs.CommandWords.{without_keys, blocks_of, spelled_by, spelled_of, spelled_in};
 
-use crate::cutting::{alone, ended, is, word_in};
+use crate::cutting::{alone, if_alone, is, word_in};
 use crate::misfit::{Misfit, Wanted};
 use crate::options::{Written, options_of};
 use crate::terms::amount_of;
@@ -35,10 +35,10 @@ pub fn spelled_of(word: &[u8], rest: &[u8]) -> Result<ParsedCommand, Misfit>
     ensures { result_ok result ≡ spelled_of word.now (words rest.now) }
 {
     if is(word, "test-unit-ready") {
-        return keyless_if_alone(Command::TestUnitReady, rest);
+        return if_alone(without_keys(Command::TestUnitReady), rest);
     }
     if is(word, "request-sense") {
-        return keyless_if_alone(Command::RequestSense, rest);
+        return if_alone(without_keys(Command::RequestSense), rest);
     }
     if is(word, "read") {
         let (lba, blocks) = blocks_of(rest)?;
@@ -59,14 +59,6 @@ fn without_keys(command: Command) -> ParsedCommand
         rk: 0,
         sark: 0,
     }
-}
-
-// The command, if no word follows it.
-fn keyless_if_alone(command: Command, rest: &[u8]) -> Result<ParsedCommand, Misfit>
-    ensures { result_ok result ≡ if_alone (without_keys command) (words rest.now) }
-{
-    ended(rest)?;
-    Ok(without_keys(command))
 }
 
 // The address of the first block, and how many blocks.

@@ -1,5 +1,6 @@
 -- Where a text's first line and a line's first word end.
 use Rattle.pr_lines.proofs.Common.{◌≡◌, ℕ, ◌+◌, ◌<◌, ◌≤◌, Bool, true, false, cond, List, [], ◌∷◌, length, take, drop, Some, None, Option, sym, refl, ap, ◌∙◌, arith, nat_tests, words}
+use Rattle.std.specs.Prelude.{option_map}
 use Rattle.std.proofs.Common.{suc, not, slice_index, ◌≢◌, inl, inr, subst, ltb, ◌==◌, if◌then◌else◌, position, filter, take_while}
 use Rattle.std.specs.List.{All, slice_split, before_first, after_first, position_or_len}
 use Rattle.std.specs.Str.Lines.{lines, lines_of_parts, strip_carriage_return}
@@ -7,8 +8,8 @@ use Rattle.std.proofs.lemmas.Bool.{cases_lt}
 use Rattle.std.proofs.lemmas.List.{take_all, drop_all}
 use Rattle.std.proofs.lemmas.List.Splits.{slice_split_first, slice_split_none, length-slice_split}
 use Rattle.std.proofs.lemmas.List.Sums.{fails_before_first, take_while-cons}
-use Rattle.pr_lines.specs.Chain.{◌>>=◌}
-use Rattle.pr_lines.specs.TextLines.{is_blank, is_comment, only, is_end}
+use Rattle.pr_script.specs.Chain.{◌>>=◌}
+use Rattle.pr_lines.specs.TextLines.{is_blank, is_comment, only, is_end, if_alone}
 
 found_at : (n m i : ℕ) → cond (ltb n m) (Some n) None ≡ Some i → (n ≡ i) × (n < m)
 found_at n m i e = grind (arith, nat_tests)
@@ -109,3 +110,11 @@ is_no_end n = grind (arith, nat_tests)
 pub only_read : {A : Type 0} (f : List ℕ → Option A) (w : List ℕ) (ws : List (List ℕ)) → (only (w ∷ ws) >>= f) ≡ (if is_end ws then f w else None)
 only_read f w [] = refl
 only_read f w (x ∷ ws) = sym (ap (λ b. cond b (f w) None) (is_no_end (length ws)))
+
+-- what one makes of this, where no word is left
+pub mapped_alone : {A B : Type 0} (f : A → B) (a : A) (ws : List (List ℕ)) → option_map f (if_alone a ws) ≡ if_alone (f a) ws
+mapped_alone f a ws = by (is_end ws)
+  where
+    by : (b : Bool) → option_map f (if b then Some a else None) ≡ (if b then Some (f a) else None)
+    by true = refl
+    by false = refl
