@@ -4,12 +4,12 @@ use crate::blocks::{OpenSends, sends_in_arm};
 use crate::costing::Cost;
 use crate::lint::Lint;
 use crate::lint_words::{is_meant, is_of_arm, put_lint, spare_arm};
-use crate::saying::{Part, line_number, name, number, say};
 use crate::source::first_word;
 use crate::together::put_together;
 use pr_output::{WriteFault, put};
 use pr_roles::Scenario;
 use pr_witness::Ends;
+use pr_words::saying::{Part, line_number, name, number, say};
 use std::io::Write;
 
 /// What `accepted` says, and what it rests on.

@@ -7,7 +7,6 @@ use crate::lint_words::index_of;
 use crate::losses::Loss;
 use crate::out_of_role::put_out_of_role_advice;
 use crate::refusing::row_at;
-use crate::saying::{Part, name, number, say};
 use crate::senders::SentBy;
 use pr_cdb::codes::{ILLEGAL_REQUEST, UNIT_ATTENTION};
 use pr_cdb::{Command, Kind, Sense};
@@ -18,6 +17,7 @@ use pr_script::limits::{MOST_ARMS, MOST_BUDGET, MOST_STATEMENTS};
 use pr_verify::{Refusal, Row, Table};
 use pr_witness::Finding;
 use pr_words::name_of;
+use pr_words::saying::{Part, name, number, say};
 use std::io::Write;
 
 /// Writes what would mend it.

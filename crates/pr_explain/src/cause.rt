@@ -2,7 +2,6 @@
 
 use crate::advice::put_deed;
 use crate::losses::{Loss, command_at, loss_of, told_behind, unit_before_last};
-use crate::saying::{Part, name, number, say};
 use crate::senders::SentBy;
 use crate::stepping::is_met;
 use pr_cdb::{Command, Kind};
@@ -11,6 +10,7 @@ use pr_registry::Held;
 use pr_roles::{Clause, Condition, Item, Nexus, names};
 use pr_unit::Unit;
 use pr_witness::Breach;
+use pr_words::saying::{Part, name, number, say};
 use pr_words::{name_of, put_reply};
 use std::io::Write;
 

@@ -27,7 +27,6 @@ mod possible;
 mod refused_send;
 mod refusing;
 mod running;
-mod saying;
 mod senders;
 mod showing;
 mod source;

@@ -3,12 +3,12 @@
 use crate::blocks::{arm_of, is_denied, sends_in_arm};
 use crate::lint::Lint;
 use crate::running::changes;
-use crate::saying::{Part, line_number, name, say};
 use crate::source::{dropped_line, keys_line, line_of, reservation_line};
 use pr_output::{Token, WriteFault, put};
 use pr_registry::Held;
 use pr_roles::{Nexus, Parts};
 use pr_words::name_of;
+use pr_words::saying::{Part, line_number, name, say};
 use std::io::Write;
 
 /// Writes the lint at this place: the line that it is of, and below it what that says.

@@ -4,7 +4,6 @@ use crate::advice::put_action;
 use crate::cause::{CONDITIONS, asks_for, loss_in, put_cause, put_told};
 use crate::lint_words::put_numbered;
 use crate::losses::{Loss, command_at};
-use crate::saying::{Part, name, number, say};
 use crate::senders::SentBy;
 use crate::source::line_of;
 use pr_cdb::Command;
@@ -12,6 +11,7 @@ use pr_output::{Token, WriteFault, put, put_spaced};
 use pr_roles::limits::MOST_CLAUSES;
 use pr_roles::{Action, Condition, Nexus, names};
 use pr_witness::{Breach, Broken, Finding};
+use pr_words::saying::{Part, name, number, say};
 use std::io::Write;
 
 /// Writes what the role asks for, what in the run took that away, what to change in the script, and last the wider role.

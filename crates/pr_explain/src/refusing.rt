@@ -6,7 +6,6 @@ use crate::fact::Fact;
 use crate::lint_words::{index_of, put_numbered};
 use crate::possible::put_possible;
 use crate::running::put_finding;
-use crate::saying::{Part, name, number, say};
 use crate::senders::SentBy;
 use crate::source::{first_word, line_of};
 use pr_cdb::Command;
@@ -17,6 +16,7 @@ use pr_script::Class;
 use pr_verify::{Refusal, Row, Table};
 use pr_views::View;
 use pr_witness::Finding;
+use pr_words::saying::{Part, name, number, say};
 use pr_words::{name_of, put_class, put_command};
 use std::io::Write;
 

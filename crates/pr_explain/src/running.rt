@@ -5,7 +5,6 @@ use crate::lint_words::{put_numbered, put_widening};
 use crate::linting::is_needed;
 use crate::planning::SHOWN_BOUNDS;
 use crate::refusing::row_at;
-use crate::saying::{Part, name, number, say};
 use crate::senders::SentBy;
 use crate::source::{first_word, is, line_of};
 use crate::unseen::put_unseen;
@@ -13,6 +12,7 @@ use pr_output::{WriteFault, put};
 use pr_roles::{Action, Clause, Item, Nexus};
 use pr_verify::{Refusal, Table};
 use pr_witness::{Bound, Breach, Broken, Finding};
+use pr_words::saying::{Part, name, number, say};
 use pr_words::{name_of, put_item, put_start};
 use std::io::Write;
 

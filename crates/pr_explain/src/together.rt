@@ -1,10 +1,10 @@
 //! Which ends of scripts come together, in words.
 
-use crate::saying::{Part, name, number, say};
 use pr_audit::End;
 use pr_output::{WriteFault, put};
 use pr_roles::Nexus;
 use pr_witness::{Ends, Together};
+use pr_words::saying::{Part, name, number, say};
 use std::io::Write;
 
 /// More of them nobody reads.

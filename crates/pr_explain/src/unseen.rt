@@ -2,11 +2,11 @@
 
 use crate::fact::Fact;
 use crate::possible::put_attentions;
-use crate::saying::{Part, name, number, say};
 use pr_output::{Token, WriteFault, put, put_spaced};
 use pr_roles::{Nexus, Task};
 use pr_script::Class;
 use pr_verify::Refusal;
+use pr_words::saying::{Part, name, number, say};
 use pr_words::{name_of, put_class, put_held};
 use std::io::Write;
 

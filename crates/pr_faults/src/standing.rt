@@ -4,11 +4,12 @@ use crate::indents::unclosed_by_indent;
 use pr_lines::{Keyword, Misfit, Wanted, keyword_of};
 use pr_output::{WriteFault, put};
 use pr_slips::{
-    Correction, Placed, Said, Told, edits, put_corrected, put_word_carets, say, tell_misfit,
-    tell_no_line, word_at, words_in,
+    Correction, Placed, Told, edits, put_corrected, put_word_carets, tell_misfit, tell_no_line,
+    word_at, words_in,
 };
 use pr_text::{Above, Block, Diagnosis, Section};
-use pr_words::{line_in, put_source_line};
+use pr_words::saying::{Part, say};
+use pr_words::{line_in, put_source_line, saying};
 use std::io::Write;
 
 /// Why a line may not stand where it stands.
@@ -251,7 +252,13 @@ fn tell_reason<W: Write>(
             put_source_line(writer, text, line)?;
             say(
                 writer,
-                &[Said::Text(before), Said::Line(line), Said::Text(after)],
+                &[
+                    Part::Text(before),
+                    Part::Text(b"line"),
+                    saying::number(u64::from(line)),
+                    Part::Text(after),
+                    Part::Text(b"\n"),
+                ],
             )
         }
         Reason::Unclosed(block) => {
@@ -286,16 +293,22 @@ pub fn tell_unclosed<W: Write>(
     put_source_line(writer, text, block.line)?;
     say(
         writer,
-        &[Said::Text(what), Said::Line(block.line), Said::Text(why)],
+        &[
+            Part::Text(what),
+            Part::Text(b"line"),
+            saying::number(u64::from(block.line)),
+            Part::Text(why),
+            Part::Text(b"\n"),
+        ],
     )?;
     match unclosed_by_indent(text, number) {
         Some(line) => {
             say(
                 writer,
                 &[
-                    Said::Text(b"By the indents it is "),
-                    Said::Line(line),
-                    Said::Text(b" that has no done:"),
+                    Part::Text(b"By the indents it is line"),
+                    saying::number(u64::from(line)),
+                    Part::Text(b" that has no done:\n"),
                 ],
             )?;
             put_source_line(writer, text, line)

@@ -5,9 +5,10 @@ use crate::limits::limit_words;
 use crate::standing::{tell_syntax, tell_unclosed};
 use crate::unknown::{tell_repeated, tell_undeclared, tell_unknown};
 use pr_output::{WriteFault, put};
-use pr_slips::{Said, say, tell_not_ascii};
+use pr_slips::tell_not_ascii;
 use pr_text::{Above, Diagnosis, ReadError, Section};
-use pr_words::{line_in, put_source_line};
+use pr_words::saying::{Part, say};
+use pr_words::{line_in, put_source_line, saying};
 use std::io::Write;
 
 /// Writes what a fault of this text means: its line, with carets where the word is known, and sentences. Where memory ran out
@@ -53,11 +54,11 @@ fn tell_too_long<W: Write>(writer: &mut W, text: &[u8], number: u32) -> Result<(
     say(
         writer,
         &[
-            Said::Text(b"Line "),
-            Said::Number(u64::from(number)),
-            Said::Text(b" has "),
-            Said::Number(line.len() as u64),
-            Said::Text(b" bytes, and a line has 256 at most, in comments too."),
+            Part::Text(b"Line"),
+            saying::number(u64::from(number)),
+            Part::Text(b" has"),
+            saying::number(line.len() as u64),
+            Part::Text(b" bytes, and a line has 256 at most, in comments too.\n"),
         ],
     )
 }
@@ -87,9 +88,10 @@ fn tell_ended<W: Write>(
     say(
         writer,
         &[
-            Said::Text(what),
-            Said::Line(line),
-            Said::Text(b" has no end."),
+            Part::Text(what),
+            Part::Text(b"line"),
+            saying::number(u64::from(line)),
+            Part::Text(b" has no end.\n"),
         ],
     )
 }

@@ -3,8 +3,9 @@
 use crate::declared::{declaration, is_declared, keys_line, line_of, nearest_key, nearest_name};
 use pr_lines::key_or_zero;
 use pr_output::{WriteFault, put};
-use pr_slips::{Placed, Said, Words, option_key, put_word_carets, say, word_at, words_in};
-use pr_words::{line_in, put_source_line};
+use pr_slips::{Placed, Words, option_key, put_word_carets, word_at, words_in};
+use pr_words::saying::{Part, say};
+use pr_words::{line_in, put_source_line, saying};
 use std::io::Write;
 
 /// Tells the line of this number, which uses a name that no line above declares, or declares as one of the other kind.
@@ -61,18 +62,18 @@ fn tell_undeclared_name<W: Write>(
     say(
         writer,
         &[
-            Said::Text(b"No line above declares "),
-            Said::Text(name),
-            Said::Text(b"."),
+            Part::Text(b"No line above declares "),
+            Part::Text(name),
+            Part::Text(b".\n"),
         ],
     )?;
     if let Some(line) = declaration(text, u32::MAX, name) {
         return say(
             writer,
             &[
-                Said::Text(b"It is declared further down, on "),
-                Said::Line(line),
-                Said::Text(b": a line that declares stands above those that use it."),
+                Part::Text(b"It is declared further down, on line"),
+                saying::number(u64::from(line)),
+                Part::Text(b": a line that declares stands above those that use it.\n"),
             ],
         );
     }
@@ -80,11 +81,11 @@ fn tell_undeclared_name<W: Write>(
         Some(near) => say(
             writer,
             &[
-                Said::Text(b"The nearest name is "),
-                Said::Text(near.word),
-                Said::Text(b", of "),
-                Said::Line(near.line),
-                Said::Text(b"."),
+                Part::Text(b"The nearest name is "),
+                Part::Text(near.word),
+                Part::Text(b", of line"),
+                saying::number(u64::from(near.line)),
+                Part::Text(b".\n"),
             ],
         ),
         None => put(writer, b"Declare it by a line host NAME or guest NAME.\n"),
@@ -112,11 +113,12 @@ fn tell_wrong_kind<W: Write>(
     say(
         writer,
         &[
-            Said::Text(name),
-            Said::Text(b", of "),
-            Said::Line(declared),
-            Said::Text(b","),
-            Said::Text(kind),
+            Part::Text(name),
+            Part::Text(b", of line"),
+            saying::number(u64::from(declared)),
+            Part::Text(b","),
+            Part::Text(kind),
+            Part::Text(b"\n"),
         ],
     )
 }
@@ -138,8 +140,9 @@ pub fn tell_undeclared<W: Write>(
         None => say(
             writer,
             &[
-                Said::Text(b"No line above declares keys; one would be: keys "),
-                Said::Text(key.text),
+                Part::Text(b"No line above declares keys; one would be: keys "),
+                Part::Text(key.text),
+                Part::Text(b"\n"),
             ],
         ),
     }
@@ -156,20 +159,20 @@ fn tell_not_among<W: Write>(
     say(
         writer,
         &[
-            Said::Text(b"The keys of "),
-            Said::Line(declared),
-            Said::Text(b" are others than "),
-            Said::Text(key),
-            Said::Text(b"."),
+            Part::Text(b"The keys of line"),
+            saying::number(u64::from(declared)),
+            Part::Text(b" are others than "),
+            Part::Text(key),
+            Part::Text(b".\n"),
         ],
     )?;
     match nearest_key(text, number, key) {
         Some(near) => say(
             writer,
             &[
-                Said::Text(b"The nearest is "),
-                Said::Text(near),
-                Said::Text(b"."),
+                Part::Text(b"The nearest is "),
+                Part::Text(near),
+                Part::Text(b".\n"),
             ],
         ),
         None => put_source_line(writer, text, declared),
@@ -220,10 +223,10 @@ pub fn tell_repeated<W: Write>(writer: &mut W, text: &[u8], number: u32) -> Resu
         return say(
             writer,
             &[
-                Said::Text(b"Line "),
-                Said::Number(u64::from(earlier)),
-                Said::Text(
-                    b" says it already. Delete one of the two; alternatives stand on one line.",
+                Part::Text(b"Line"),
+                saying::number(u64::from(earlier)),
+                Part::Text(
+                    b" says it already. Delete one of the two; alternatives stand on one line.\n",
                 ),
             ],
         );

@@ -1,7 +1,7 @@
 //! Bytes that no line may have.
 
-use crate::saying::{Said, say};
 use pr_output::{WriteFault, put};
+use pr_words::saying::{Part, say};
 use pr_words::{line_in, put_carets, put_source_line};
 use std::io::Write;
 
@@ -85,9 +85,9 @@ fn tell_byte<W: Write>(writer: &mut W, bytes: &[u8]) -> Result<(), WriteFault> {
     say(
         writer,
         &[
-            Said::Text(b"Here stands the byte "),
-            Said::Text(&[digit(*first / 16), digit(*first % 16)]),
-            Said::Text(b"h."),
+            Part::Text(b"Here stands the byte "),
+            Part::Text(&[digit(*first / 16), digit(*first % 16)]),
+            Part::Text(b"h.\n"),
         ],
     )?;
     for (known, what) in &KNOWN {

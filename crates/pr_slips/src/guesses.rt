@@ -3,7 +3,6 @@
 use crate::corrected::{Correction, put_corrected};
 use crate::forms::wanted_words;
 use crate::misfits::{Told, tell_here};
-use crate::saying::{Said, say};
 use crate::slips::type_by;
 use crate::words::{Placed, option_key};
 use arrayvec::ArrayVec;
@@ -11,6 +10,7 @@ use itoa::Buffer;
 use pr_lines::{Wanted, key_or_zero};
 use pr_output::{WriteFault, put};
 use pr_script::is_name;
+use pr_words::saying::{Part, number, say};
 use std::io::Write;
 use std::slice;
 
@@ -73,10 +73,11 @@ fn tell_length<W: Write>(
     say(
         writer,
         &[
-            Said::Text(wanted_words(wanted)),
-            Said::Text(b"\nThis has "),
-            Said::Number(text.len() as u64),
-            Said::Text(of),
+            Part::Text(wanted_words(wanted)),
+            Part::Text(b"\nThis has"),
+            number(text.len() as u64),
+            Part::Text(of),
+            Part::Text(b"\n"),
         ],
     )?;
     Ok(true)
@@ -175,7 +176,10 @@ fn tell_value<W: Write>(
 }
 
 fn tell_wanted<W: Write>(writer: &mut W, wanted: Wanted) -> Result<bool, WriteFault> {
-    say(writer, &[Said::Text(wanted_words(wanted))])?;
+    say(
+        writer,
+        &[Part::Text(wanted_words(wanted)), Part::Text(b"\n")],
+    )?;
     Ok(true)
 }
 
@@ -289,11 +293,11 @@ fn tell_reservation<W: Write>(
         say(
             writer,
             &[
-                Said::Text(
+                Part::Text(
                     b"A reservation of this type has one holder, whose name stands behind it: ",
                 ),
-                Said::Text(word.text),
-                Said::Text(b":NAME."),
+                Part::Text(word.text),
+                Part::Text(b":NAME.\n"),
             ],
         )?;
         return Ok(true);

@@ -11,7 +11,6 @@ mod forms;
 mod guesses;
 mod misfits;
 mod nearest;
-mod saying;
 mod slips;
 mod words;
 
@@ -19,5 +18,4 @@ pub use bytes::tell_not_ascii;
 pub use corrected::{Correction, put_corrected};
 pub use misfits::{Told, put_word_carets, tell_misfit, tell_no_line};
 pub use nearest::{Nearest, edits};
-pub use saying::{Said, say};
 pub use words::{Placed, Words, option_key, word_at, words_in};

@@ -4,12 +4,12 @@ use crate::corrected::{Correction, put_corrected};
 use crate::forms::{form_of, missing_words, wanted_words};
 use crate::guesses::guess;
 use crate::nearest::{nearest_keyword, nearest_wanted};
-use crate::saying::{Said, say};
 use crate::slips::{Meant, meant_by, meant_by_line};
 use crate::words::{Placed, Words};
 use pr_lines::{Keyword, Misfit, Wanted, keyword_of};
 use pr_output::{Token, WriteFault, put, put_spaced};
 use pr_words::put_carets;
+use pr_words::saying::{Part, say};
 use std::io::Write;
 
 /// A line, its number, and its words.
@@ -62,7 +62,10 @@ pub fn tell_misfit<W: Write>(
     if is_cured {
         return Ok(());
     }
-    say(writer, &[Said::Text(wanted_words(misfit.wanted))])?;
+    say(
+        writer,
+        &[Part::Text(wanted_words(misfit.wanted)), Part::Text(b"\n")],
+    )?;
     match told.words.first() {
         Some(word) => tell_form(writer, word.text),
         None => Ok(()),
@@ -82,9 +85,9 @@ pub fn tell_no_line<W: Write>(
             say(
                 writer,
                 &[
-                    Said::Text(b"No line begins so. The nearest word is "),
-                    Said::Text(near),
-                    Said::Text(b":"),
+                    Part::Text(b"No line begins so. The nearest word is "),
+                    Part::Text(near),
+                    Part::Text(b":\n"),
                 ],
             )?;
             put_corrected(writer, told.line, Correction::of(first, near))?;
@@ -105,7 +108,11 @@ fn tell_form<W: Write>(writer: &mut W, word: &[u8]) -> Result<(), WriteFault> {
         Some(Keyword::Send | Keyword::On | Keyword::Reservation) | None => Ok(()),
         Some(keyword) => say(
             writer,
-            &[Said::Text(b"The form is: "), Said::Text(form_of(keyword))],
+            &[
+                Part::Text(b"The form is: "),
+                Part::Text(form_of(keyword)),
+                Part::Text(b"\n"),
+            ],
         ),
     }
 }
@@ -131,9 +138,9 @@ fn tell_word<W: Write>(
     say(
         writer,
         &[
-            Said::Text(b"The nearest word is "),
-            Said::Text(near),
-            Said::Text(b":"),
+            Part::Text(b"The nearest word is "),
+            Part::Text(near),
+            Part::Text(b":\n"),
         ],
     )?;
     put_corrected(writer, told.line, replaced(word, near))?;
@@ -182,7 +189,7 @@ fn tell_meant<W: Write>(
             put(writer, b"That has no part here:\n")?;
             put_options(writer, told, place)
         }
-        Meant::Said(sentence) => say(writer, &[Said::Text(sentence)]),
+        Meant::Said(sentence) => say(writer, &[Part::Text(sentence), Part::Text(b"\n")]),
     }
 }
 
@@ -237,9 +244,9 @@ pub fn tell_here<W: Write>(writer: &mut W, text: &[u8]) -> Result<(), WriteFault
     say(
         writer,
         &[
-            Said::Text(b"Here that is "),
-            Said::Text(text),
-            Said::Text(b":"),
+            Part::Text(b"Here that is "),
+            Part::Text(text),
+            Part::Text(b":\n"),
         ],
     )
 }

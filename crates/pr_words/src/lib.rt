@@ -11,6 +11,7 @@ mod held;
 mod item;
 mod numbers;
 mod reply;
+pub mod saying;
 mod sense;
 mod source_line;
 mod standing;

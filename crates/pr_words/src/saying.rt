@@ -5,7 +5,7 @@ use std::io::Write;
 
 /// A part of a sentence.
 #[derive(Clone, Copy)]
-pub(crate) enum Part<'a> {
+pub enum Part<'a> {
     /// This very text.
     Text(&'a [u8]),
     /// The word, after a space.
@@ -13,7 +13,7 @@ pub(crate) enum Part<'a> {
 }
 
 /// Writes the parts one behind the other.
-pub(crate) fn say<W: Write>(writer: &mut W, parts: &[Part<'_>]) -> Result<(), WriteFault> {
+pub fn say<W: Write>(writer: &mut W, parts: &[Part<'_>]) -> Result<(), WriteFault> {
     for part in parts {
         match part {
             Part::Text(text) => put(writer, text)?,
@@ -24,16 +24,16 @@ pub(crate) fn say<W: Write>(writer: &mut W, parts: &[Part<'_>]) -> Result<(), Wr
 }
 
 /// A name, after a space.
-pub(crate) fn name(text: &[u8]) -> Part<'_> {
+pub fn name(text: &[u8]) -> Part<'_> {
     Part::Spaced(Token::Text(text))
 }
 
 /// A number, after a space.
-pub(crate) fn number(value: u64) -> Part<'static> {
+pub fn number(value: u64) -> Part<'static> {
     Part::Spaced(Token::Number(value))
 }
 
 /// The number of the line with this index, after a space.
-pub(crate) fn line_number(index: usize) -> Part<'static> {
+pub fn line_number(index: usize) -> Part<'static> {
     Part::Spaced(Token::Number((index as u64).saturating_add(1)))
 }
