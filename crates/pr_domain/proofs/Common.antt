@@ -37,7 +37,8 @@ pub use Rattle.pr_roles.specs.Scenarios.{Scenario, nexus}
 unfoldable pub use Rattle.pr_roles.specs.Scenarios.{scenario_of}
 pub use Rattle.pr_roles.specs.declared.how.Refusals.{Refusals}
 pub use Rattle.pr_views.specs.Portions.{has_at, view_in}
-pub use Rattle.pr_views.specs.Possibilities.{Scope, key_at, number_of, count_of_reservations, Item, Registration, Reservation, Attentions, IsSo}
+pub use Rattle.pr_roles.specs.Keys.{key_at}
+pub use Rattle.pr_views.specs.Possibilities.{Scope, number_of, count_of_reservations, Item, Registration, Reservation, Attentions, IsSo}
 pub use Rattle.pr_views.specs.Rooms.{scope_of, view_of, AreInRange}
 pub use Rattle.pr_views.specs.Views.{View, IsPossible, Shows, Within}
 pub use Rattle.pr_views.specs.declared.possibilities.Possibilities.{Possibilities}

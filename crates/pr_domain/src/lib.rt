@@ -17,4 +17,3 @@ pub use pr_script::{Class, Landing};
 pub use pr_sets::{ListSet, ViewSet, WordSet};
 pub use pr_views::{View, ViewOf};
 pub use starting::of_start;
-pub use tallying::key_at;

@@ -8,7 +8,7 @@ ghost use Rattle.pr_roles.specs.declared.limits.TheConstants.{MOST_KEYS};
 ghost use Rattle.pr_sets.specs.Numbers.{most};
 ghost use Rattle.pr_sets.specs.Wides.{has_wide};
 ghost use Rattle.pr_views.specs.declared.view.TheConstants.{MOST_REGISTRATIONS};
-ghost use Rattle.pr_views.specs.Possibilities.{key_at};
+ghost use Rattle.pr_roles.specs.Keys.{key_at};
 ghost use Rattle.pr_regions.specs.Purposes.{HasNumber, is_refused};
 ghost use Rattle.pr_regions.specs.Regions.{HasRoom, standing_of};
 ghost use Rattle.pr_domain.specs.inside.Tallies.{AddsBranch, AddsBranches, AddsAccepted, AddsRefused, AddsReading, AddsReadings, AreTallied, way_of};
@@ -24,6 +24,7 @@ use pr_regions::{
     Branch, Ending, Place, Purpose, Reading, Region, Standing, branches, change_to_reservation,
     is_refused, purpose_of, readings, registrations_after, standing_of,
 };
+use pr_roles::key_at;
 use pr_script::Class;
 use pr_script::limits::MOST_ARMS;
 use pr_sets::{BitSet, Wide};
@@ -200,16 +201,6 @@ fn add_readings(
         add_reading(tally, view, place, registration, &readings[i]);
         i += 1;
     }
-}
-
-/// The key of a registration, if it has one.
-pub fn key_at(keys: &[u64], registration: u8) -> Option<u64>
-    ensures { result ≡ key_at keys.now registration }
-{
-    if registration == 0 {
-        return None;
-    }
-    keys.get(usize::from(registration - 1)).copied()
 }
 
 // Whether the command returns data that tests look at.

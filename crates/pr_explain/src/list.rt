@@ -2,8 +2,8 @@
 
 use crate::fact::Fact;
 use pr_cdb::codes::MOST_NEXUSES;
-use pr_domain::key_at;
 use pr_regions::reservation_at;
+use pr_roles::key_at;
 use pr_sets::{BIT_SET_SIZE, BitSet, MOST, Wide};
 use pr_views::{Possibilities, View, count_of_reservations};
 

@@ -19,7 +19,8 @@ pub use Rattle.pr_unit.specs.Steps.{Step}
 pub use Rattle.pr_unit.specs.UnitStates.{UnitState, is_pending, is_any_pending, IsWellFormed}
 pub use Rattle.pr_script.specs.Grammar.{is_written_key, is_written}
 pub use Rattle.pr_views.specs.Portions.{has_at, view_in}
-pub use Rattle.pr_views.specs.Possibilities.{Scope, key_at, count_of_reservations, Item, Registration, Reservation, Attentions, IsSo}
+pub use Rattle.pr_roles.specs.Keys.{key_at}
+pub use Rattle.pr_views.specs.Possibilities.{Scope, count_of_reservations, Item, Registration, Reservation, Attentions, IsSo}
 pub use Rattle.pr_views.specs.Rooms.{view_of}
 pub use Rattle.pr_views.specs.Views.{View, IsPossible, Shows, Within}
 pub use Rattle.pr_views.specs.declared.possibilities.Possibilities.{Possibilities}

@@ -22,7 +22,8 @@ pub use Rattle.pr_unit.specs.UnitStates.{UnitState}
 pub use Rattle.pr_script.specs.Takes.{matches}
 pub use Rattle.pr_script.specs.declared.grammar.TheConstants.{WRITTEN_LENGTH}
 pub use Rattle.pr_views.specs.Portions.{HasSomebody}
-pub use Rattle.pr_views.specs.Possibilities.{Scope, number_of, key_at, IsScope, Registration, IsSo}
+pub use Rattle.pr_roles.specs.Keys.{key_at}
+pub use Rattle.pr_views.specs.Possibilities.{Scope, number_of, IsScope, Registration, IsSo}
 pub use Rattle.pr_regions.specs.Purposes.{HasNumber, number_in}
 pub use Rattle.pr_regions.specs.Readings.{IsProperReading}
 pub use Rattle.pr_regions.specs.Regions.{Meets, HasRoom, IsInRegion, IsCovered, Ends}

@@ -1,11 +1,10 @@
 //! Which arm takes the data of READ RESERVATION.
 
-ghost use Rattle.std.specs.Prelude.{◌≡◌, ◌≤◌, Some, length, true, unwrap_or, position};
+ghost use Rattle.std.specs.Prelude.{◌≡◌, ◌≤◌, Some, length, true, position};
 ghost use Rattle.std.specs.List.{All};
 ghost use Rattle.pr_cdb.specs.declared.command.Kind.{Kind as KindOf};
 ghost use Rattle.pr_cdb.specs.declared.command.Command.{Command as CommandOf};
 ghost use Rattle.pr_roles.specs.declared.limits.TheConstants.{MOST_KEYS};
-ghost use Rattle.pr_views.specs.Possibilities.{key_at};
 ghost use Rattle.pr_regions.specs.Readings.{AreReadingsOfAny, IsProperReading};
 ghost use Rattle.pr_regions.specs.inside.Reads.{passes_held, read_reservation, AreReadingsByHolder, IsEverywhere, TestsFit};
 
@@ -14,6 +13,7 @@ use crate::region::{MOST_READINGS, Reading, Region};
 use arrayvec::ArrayVec;
 use pr_cdb::Command;
 use pr_registry::Held;
+use pr_roles::key_at;
 use pr_script::Test;
 use pr_sets::BitSet;
 
@@ -39,17 +39,6 @@ fn first_arm(tests: &[Test], key: Option<u64>) -> Option<usize>
     ensures { result ≡ position (passes_held key) tests.now }
 {
     tests.iter().position(|test| passes(key, *test))
-}
-
-// The key of this number, or 0.
-fn key_at(keys: &[u64], number: u8) -> u64
-    requires { number ≤ length keys.now }
-    ensures { result ≡ unwrap_or (key_at keys.now number) 0 }
-{
-    if number == 0 {
-        return 0;
-    }
-    keys[usize::from(number) - 1]
 }
 
 // The same arm in all states.
@@ -104,7 +93,8 @@ fn held_readings(
         Held::All(_) => everywhere(first_arm(tests, Some(0))),
         Held::One(_, holder) => {
             if holder == sender {
-                everywhere(first_arm(tests, Some(key_at(keys, registration))))
+                let key = key_at(keys, registration).unwrap_or(0);
+                everywhere(first_arm(tests, Some(key)))
             } else {
                 by_holder(tests, keys)
             }

@@ -6,7 +6,8 @@ pub use Rattle.pr_registry.specs.declared.held.Held.{Held}
 pub use Rattle.pr_registry.specs.declared.held.Held.TheVariants.{One}
 unfoldable pub use Rattle.pr_roles.specs.Scenarios.{scenario_of}
 pub use Rattle.pr_roles.specs.declared.parts.Parts.{Parts}
-pub use Rattle.pr_views.specs.Possibilities.{key_at, number_of, count_of_attentions}
+pub use Rattle.pr_roles.specs.Keys.{key_at}
+pub use Rattle.pr_views.specs.Possibilities.{number_of, count_of_attentions}
 pub use Rattle.pr_views.specs.Rooms.{view_of}
 pub use Rattle.pr_verify.specs.Rooms.{row_of}
 pub use Rattle.pr_report.specs.OutlineText.{free_or_key, codes_in, sends_text}

@@ -13,7 +13,8 @@ use Rattle.pr_registry.specs.declared.held.Held.{Held}
 use Rattle.pr_registry.specs.declared.held.Held.TheVariants.{One, All}
 use Rattle.pr_script.specs.declared.script.Test.{Test}
 use Rattle.pr_script.specs.declared.landing.Class.{Class}
-use Rattle.pr_views.specs.Possibilities.{key_at, number_of, count_of_attentions}
+use Rattle.pr_roles.specs.Keys.{key_at}
+use Rattle.pr_views.specs.Possibilities.{number_of, count_of_attentions}
 use Rattle.pr_views.specs.Views.{View}
 use Rattle.pr_verify.specs.Tables.{Row, Table}
 use Rattle.pr_output.specs.PrintedLines.{line, key_word, class_word, attentions_word}

@@ -1,3 +1,4 @@
+pub mod Keys
 pub mod Permits
 pub mod Scenarios
 pub mod Starts

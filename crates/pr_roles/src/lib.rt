@@ -11,6 +11,7 @@ mod first;
 mod fitting;
 mod how;
 mod item;
+mod keys;
 mod laws;
 pub mod limits;
 mod nexus;
@@ -26,6 +27,7 @@ pub use entry::Entry;
 pub use fitting::{are_alternatives, are_declared, is_action};
 pub use how::{How, Refusals};
 pub use item::Item;
+pub use keys::key_at;
 pub use laws::{
     first_starts_are_earliest, first_version_has_no_reset, first_version_is_plain, limits_agree,
     refusals_are_counted, refusals_are_declared, resets_are_counted, resets_are_declared,

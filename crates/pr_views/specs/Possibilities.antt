@@ -1,9 +1,8 @@
 -- Agrees with docs/VIEWS.md, 'What a view has'.
 -- What is possible of a logical unit, as numbers: a nexus's registration, the reservation, and the unit
 -- attentions that are pending for the host whose view it is.
-use Rattle.std.specs.Prelude.{◌≡◌, ℕ, zero, suc, ◌+◌, ◌*◌, ◌<◌, ◌≤◌, List, length, Option, Some, None}
+use Rattle.std.specs.Prelude.{◌≡◌, ℕ, ◌+◌, ◌*◌, ◌<◌, ◌≤◌, List, length, Option, Some, None}
 use Rattle.std.specs.FinSet as set
-use Rattle.std.specs.List.{slice_get}
 use Rattle.pr_cdb.specs.declared.command.Kind.{Kind}
 use Rattle.pr_cdb.specs.declared.command.Kind.TheVariants.{WriteExclusive, ExclusiveAccess, WriteExclusiveRegistrantsOnly, ExclusiveAccessRegistrantsOnly, WriteExclusiveAllRegistrants, ExclusiveAccessAllRegistrants}
 use Rattle.pr_cdb.specs.declared.codes.TheConstants.{MOST_NEXUSES}
@@ -13,6 +12,7 @@ use Rattle.pr_registry.specs.Registrations.{key_of}
 use Rattle.pr_attention.specs.Flagged.{codes_of}
 use Rattle.pr_unit.specs.UnitStates.{UnitState, is_pending}
 use Rattle.pr_roles.specs.Fitting.{AreDeclared}
+use Rattle.pr_roles.specs.Keys.{key_at}
 use Rattle.pr_views.specs.declared.view.TheConstants.{ATTENTION_SETS}
 
 -- Whose view it is, how many nexuses there are, and the declared keys, whose order numbers the
@@ -27,11 +27,6 @@ pub record IsScope (s : Scope) : Type 0 where
   pub hosts : (1 ≤ s.hosts) × (s.hosts ≤ MOST_NEXUSES)
   pub own : s.own < s.hosts
   pub keys : AreDeclared s.keys
-
--- registration 0 is none, registration i is the i-th declared key
-abbrev pub key_at : List ℕ → ℕ → Option ℕ
-key_at keys zero = None
-key_at keys (suc i) = slice_get keys i
 
 -- the place of a type among those with one holder (1, 3, 5, 6), and among those of all registrants (7, 8)
 abbrev pub place_of : Kind → ℕ

@@ -15,7 +15,8 @@ use Rattle.pr_roles.specs.inside.StoredStarts.{start_of}
 use Rattle.pr_sets.specs.BitSets.{has}
 use Rattle.pr_sets.specs.Wides.{has_wide}
 use Rattle.pr_views.specs.declared.possibilities.Possibilities.{Possibilities}
-use Rattle.pr_views.specs.Possibilities.{Scope, key_at, number_of, count_of_attentions}
+use Rattle.pr_roles.specs.Keys.{key_at}
+use Rattle.pr_views.specs.Possibilities.{Scope, number_of, count_of_attentions}
 use Rattle.pr_views.specs.Portions.{has_at}
 use Rattle.pr_regions.specs.Purposes.{number_in}
 

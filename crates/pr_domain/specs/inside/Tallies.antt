@@ -13,7 +13,8 @@ use Rattle.pr_script.specs.Grammar.{is_read_keys, is_read_reservation}
 use Rattle.pr_sets.specs.BitSets.{has}
 use Rattle.pr_sets.specs.Wides.{has_wide}
 use Rattle.pr_views.specs.declared.possibilities.Possibilities.{Possibilities}
-use Rattle.pr_views.specs.Possibilities.{key_at, Scope, Item, Registration, Reservation, Attentions, IsSo}
+use Rattle.pr_roles.specs.Keys.{key_at}
+use Rattle.pr_views.specs.Possibilities.{Scope, Item, Registration, Reservation, Attentions, IsSo}
 use Rattle.pr_views.specs.Views.{View, Shows, Fits}
 use Rattle.pr_views.specs.Portions.{has_at, view_in}
 use Rattle.pr_regions.specs.Readings.{first_test}

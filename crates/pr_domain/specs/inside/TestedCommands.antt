@@ -4,7 +4,8 @@ use Rattle.pr_script.specs.Grammar.{is_read_keys, is_read_reservation}
 use Rattle.pr_sets.specs.declared.bit_set.BitSet.{BitSet}
 use Rattle.pr_sets.specs.BitSets.{has}
 use Rattle.pr_views.specs.declared.possibilities.Possibilities.{Possibilities}
-use Rattle.pr_views.specs.Possibilities.{Scope, key_at}
+use Rattle.pr_roles.specs.Keys.{key_at}
+use Rattle.pr_views.specs.Possibilities.{Scope}
 use Rattle.pr_views.specs.Portions.{view_in}
 use Rattle.pr_regions.specs.declared.place.Place.{Place}
 use Rattle.pr_regions.specs.declared.purpose.Purpose.{Purpose}

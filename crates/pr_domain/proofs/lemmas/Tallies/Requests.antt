@@ -11,7 +11,7 @@ use Rattle.pr_regions.specs.declared.purpose.Standing.{Standing}
 use Rattle.pr_regions.specs.declared.region.Ending.TheVariants as ending
 use Rattle.pr_regions.specs.Regions.{Meets, names, filter_of, Ends, IsUntestedOrRegistered, IsProper as IsProperBranch}
 use Rattle.pr_domain.specs.inside.Tallies.{AreRight, HasOneOf, IsAsked, IsRefusedAt}
-use Rattle.pr_views.specs.Possibilities.{key_at}
+use Rattle.pr_roles.specs.Keys.{key_at}
 use Rattle.pr_domain.specs.inside.TestedCommands.{AreAlike}
 use Rattle.pr_domain.specs.declared.tested.TestedCommand.{TestedCommand}
 use Rattle.pr_regions.specs.declared.purpose.Standing.TheVariants.{Unregistered, Named, Other}

@@ -12,7 +12,7 @@ use Rattle.pr_unit.specs.Faults.{illegal}
 use Rattle.pr_roles.specs.declared.role.Action.TheVariants as action
 use Rattle.pr_roles.specs.declared.role.Condition.{Condition}
 use Rattle.pr_roles.specs.declared.role.Condition.TheVariants as condition
-use Rattle.pr_views.specs.Possibilities.{key_at}
+use Rattle.pr_roles.specs.Keys.{key_at}
 use Rattle.pr_views.specs.Views.{IsSeen}
 use Rattle.pr_views.proofs.lemmas.Rooms.Places.{holds_at-get_or, holds_at_past}
 use Rattle.pr_regions.proofs.lemmas.Showing.Numbers.{AreDistinct, are_distinct_keys, same_number_at}

@@ -12,7 +12,7 @@ use Rattle.pr_registry.specs.Registrations.{holds_alone, is_holder_of}
 use Rattle.pr_registry.specs.Changes.{Case, ReplacesAll, ReplacesHolder, RemovesKey, no_change, is_held_as, is_released, preempt_case, change_on_unregister, change_on_release, change_on_clear, change_on_preempt}
 use Rattle.pr_registry.specs.Effects.{with_registration as register, held_by_rest, held_or, with_reservation, after_release, without_registration, after_clear, after_preempt}
 use Rattle.pr_registry.proofs.lemmas.Sets.{get-without, contains-hosts_with, key_is, not_empty_from_some}
-use Rattle.pr_views.specs.Possibilities.{key_at}
+use Rattle.pr_roles.specs.Keys.{key_at}
 use Rattle.pr_regions.specs.Transitions.{never}
 use Rattle.pr_regions.specs.inside.Parts.{is_of_registrant, told_if, told_but, lost_if}
 use Rattle.pr_regions.proofs.lemmas.Showing.Numbers.{AreDistinct, same_number_at}

@@ -13,9 +13,10 @@ pub returns-then-holder-sender-clause-right : goal.returns-then-holder-sender-cl
 returns-then-holder-sender-clause-right c hosts =
     let all = c.everywhere-then-holder-sender.ensures.all in
     let same : c.in-One.holder ≡ c.args.sender = omega arith in
+    let key = c.unwrap_or-key.ensures ∙ ap (λ o. unwrap_or o 0) c.key_at.ensures in
     rw all.alone (
     read_everywhere c.args.keys.now hosts (Some c.args.held) c.args.sender c.args.registration c.args.tests.now (Some (unwrap_or (key_at c.args.keys.now c.args.registration) 0)) all.reading c.requires.fits all.whole
-    (all.arm ∙ rw c.key_at.ensures at c.first_arm-then-holder-sender.ensures)
+    (all.arm ∙ rw key at c.first_arm-then-holder-sender.ensures)
     (key_of_sender c.args.keys.now hosts (Some c.args.held) c.in-One.field-0 c.in-One.holder c.args.sender c.args.registration (ap Some c.in-One.is) same))
 
 pub returns-else-holder-sender-clause-right : goal.returns-else-holder-sender-clause-right

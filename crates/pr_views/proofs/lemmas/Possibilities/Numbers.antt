@@ -13,7 +13,8 @@ use Rattle.pr_attention.proofs.lemmas.Sets.{same_codes}
 use Rattle.pr_attention.proofs.lemmas.Bits.{same_bits}
 use Rattle.pr_registry.specs.Registrations.{State, IsWellFormed, HasHolder}
 use Rattle.pr_roles.specs.Fitting.{are_distinct}
-use Rattle.pr_views.specs.Possibilities.{Scope, IsScope, key_at, place_of, number_of, count_of_reservations}
+use Rattle.pr_roles.specs.Keys.{key_at}
+use Rattle.pr_views.specs.Possibilities.{Scope, IsScope, place_of, number_of, count_of_reservations}
 
 -- ---- registrations
 

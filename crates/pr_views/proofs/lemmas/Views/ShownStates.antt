@@ -13,7 +13,8 @@ use Rattle.pr_registry.proofs.lemmas.Tables.{eq_itself, same_number}
 use Rattle.pr_unit.specs.Attentions.{of_host}
 use Rattle.pr_unit.specs.UnitStates.{IsWellFormed}
 use Rattle.pr_unit.proofs.lemmas.Attentions.Pairs.{contains-of_host}
-use Rattle.pr_views.specs.Possibilities.{Scope, IsScope, key_at, number_of, count_of_attentions}
+use Rattle.pr_roles.specs.Keys.{key_at}
+use Rattle.pr_views.specs.Possibilities.{Scope, IsScope, number_of, count_of_attentions}
 use Rattle.pr_views.specs.Views.{View, Shows, Within}
 use Rattle.pr_views.proofs.lemmas.Possibilities.Numbers.{key_there}
 
