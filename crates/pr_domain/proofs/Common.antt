@@ -2,7 +2,7 @@
 pub use Rattle.std.proofs.Common.{◌≡◌, ℕ, zero, suc, ◌+◌, ◌-◌, ◌*◌, ◌<◌, ◌≤◌, Bool, true, false, not, ◌&&◌, ◌||◌, ◌≢◌, ◌⊎◌, ◌↔◌, List, [], ◌∷◌, map, length, get_or, take, is_some, IfSome, IfNone, if◌then◌else◌, IsTrue, nat_lt, ◌==◌, slice_get, slice_set, Some, None, All, Contains, Option, option_map, sym, refl, ap, ◌∙◌, subst, inl, inr, arith, lit<, rules}
 pub use Rattle.std.specs.List.{list_any, list_all}
 pub use Rattle.std.specs.Option.{option_map_or}
-pub use Rattle.std.proofs.lemmas.Bool.{false≢true, not-true, cases_lt, and_parts, cases_order, cases_eq, or_cases, and_from, or_left, or_right}
+pub use Rattle.std.proofs.lemmas.Bool.{false≢true, not-true, cases_lt, and_parts, cases_order, cases_eq, or_cases, and_from, or_left, or_right, eq-eqb, eqb-true}
 pub use Rattle.std.proofs.lemmas.Bool.Decides.{eqb_tells, nat_tests}
 pub use Rattle.std.proofs.lemmas.Option.{same_Some, slice_get_within, slice_get-get_or, get_or_from_slice_get}
 pub use Rattle.pr_sets.specs.Wides.{has_wide}

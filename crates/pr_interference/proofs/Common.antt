@@ -1,6 +1,6 @@
 -- The names that most proofs of this crate cite, passed on from one place. Declares nothing.
 pub use Rattle.std.proofs.Common.{◌≡◌, ℕ, zero, suc, ◌+◌, ◌<◌, ◌≤◌, Bool, true, false, not, ◌&&◌, ◌||◌, ◌≢◌, ◌⊎◌, List, [], ◌∷◌, length, if◌then◌else◌, ◌==◌, slice_index_or, bit_or, Some, None, All, Option, sym, refl, ap, ◌∙◌, subst, inl, inr, arith, lt-ltb}
-pub use Rattle.std.proofs.lemmas.Bool.{false≢true, and_parts, and_from}
+pub use Rattle.std.proofs.lemmas.Bool.{false≢true, and_parts, and_from, eq-eqb, eqb-true, or_left}
 pub use Rattle.std.proofs.lemmas.Bool.Decides.{eqb_tells, nat_tests}
 pub use Rattle.std.proofs.lemmas.List.{get_or_default}
 pub use Rattle.pr_sets.specs.Wides.{has_wide}

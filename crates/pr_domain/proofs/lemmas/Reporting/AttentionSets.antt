@@ -1,5 +1,5 @@
 -- Sets of attentions as numbers, once one of them was reported.
-use Rattle.pr_domain.proofs.Common.{◌≡◌, ℕ, ◌+◌, ◌<◌, Bool, true, false, ◌&&◌, ◌||◌, ◌≢◌, ◌⊎◌, ◌==◌, sym, refl, ap, ◌∙◌, subst, inl, inr, arith, false≢true, or_cases, or_left, or_right, eqb_tells, nat_tests, has, BitSet, code_of, codes_of, Attention, AreReported}
+use Rattle.pr_domain.proofs.Common.{◌≡◌, ℕ, ◌+◌, ◌<◌, Bool, true, false, ◌&&◌, ◌||◌, ◌≢◌, ◌⊎◌, ◌==◌, sym, ap, ◌∙◌, subst, inl, inr, arith, false≢true, or_cases, or_left, or_right, eqb_tells, nat_tests, has, BitSet, code_of, codes_of, Attention, AreReported}
 use Rattle.std.specs.FinSet as set
 use Rattle.pr_attention.proofs.lemmas.Bits.{same_bits}
 use Rattle.pr_domain.specs.inside.Reporting.{IsAfter}
@@ -53,10 +53,3 @@ reported_skips bound pending a left before none = record {
         at (inl same) =
             absurd (never _ _ none (ap (has pending) (sym same.1) ∙ possible) (ap (λ k. set.contains (codes_of k) (code_of a)) (sym same.1) ∙ follows.1))
         at (inr other) = before.all q n (let differs = other.1 in omega arith) possible follows
-
-pub neither_first : (x y : Bool) → x ≡ false → (x && y) ≡ false
-neither_first x y is = ap (λ b. b && y) is
-
-pub neither_second : (x y : Bool) → y ≡ false → (x && y) ≡ false
-neither_second true y is = is
-neither_second false y is = refl

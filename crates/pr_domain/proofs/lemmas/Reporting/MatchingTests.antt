@@ -1,15 +1,12 @@
 -- Which test is the first that matches a reply, by the class of the reply.
-use Rattle.pr_domain.proofs.Common.{◌≡◌, ℕ, suc, ◌<◌, Bool, true, false, ◌&&◌, List, [], ◌∷◌, length, get_or, All, sym, refl, ap, arith, false≢true, Reply, Sense, matches, Test, first_test, IsClass, Class, Good, Conflict, Busy, Full}
-use Rattle.std.specs.List.{position, position_or_len}
+use Rattle.pr_domain.proofs.Common.{◌≡◌, false, ◌&&◌, List, sym, refl, ap, false≢true, Reply, Sense, matches, Test, first_test, IsClass, Class, Good, Conflict, Busy, Full}
+use Rattle.std.specs.List.{position}
 use Rattle.pr_cdb.specs.Statuses.{is_good_status, is_check_status, is_conflict_status, is_busy_status, is_full_status}
 use Rattle.pr_script.specs.declared.script.Test.TheVariants as test
 use Rattle.pr_script.specs.Takes.{is_attention, is_sense}
 use Rattle.pr_script.specs.declared.landing.Class.TheVariants.{Sense as WithSense}
+use Rattle.pr_regions.proofs.lemmas.Readings.ReservationArms.{position_alike}
 use Rattle.pr_domain.specs.inside.Reporting.{looks, takes, AreBlind}
-
-and_false : (b : Bool) → (b && false) ≡ false
-and_false true = refl
-and_false false = refl
 
 matches_good : (t : Test) (r : Reply) → IsClass r Good → looks t ≡ false → matches t r ≡ takes t Good
 matches_good test.Good r is blind = ap is_good_status is
@@ -50,17 +47,9 @@ matches_sense test.Attention r s is = (λ i. is_check_status (is.0 i) && is_atte
 matches_sense (test.Sense wanted) r s is = (λ i. is_check_status (is.0 i) && is_sense (is.1 i) wanted)
 matches_sense _ r s is = rw is.0 refl
 
--- tests that say the same of each element find the same first one
-same_count : {X : Type 0} (p q : X → Bool) (xs : List X) → ((i : ℕ) (d : X) → i < length xs → p (get_or xs i d) ≡ q (get_or xs i d)) → position_or_len p xs ≡ position_or_len q xs
-same_count p q [] same = refl
-same_count p q (x ∷ xs) same = rw (same 0 x (omega arith), same_count p q xs (λ i d there. same (suc i) d (omega arith))) refl
-
-same_first : {X : Type 0} (p q : X → Bool) (xs : List X) → All (λ x. p x ≡ q x) xs → position p xs ≡ position q xs
-same_first p q xs same = rw (same_count p q xs same) refl
-
 pub first_of_class : (tests : List Test) (class : Class) (r : Reply) → IsClass r class → AreBlind tests class → first_test tests r ≡ position (λ t. takes t class) tests
-first_of_class tests Good r is blind = same_first (λ t. matches t r) (λ t. takes t Good) tests (λ i d there. matches_good _ r is (blind i d there))
-first_of_class tests Conflict r is blind = same_first (λ t. matches t r) (λ t. takes t Conflict) tests (λ i d there. matches_conflict _ r is)
-first_of_class tests Busy r is blind = same_first (λ t. matches t r) (λ t. takes t Busy) tests (λ i d there. matches_busy _ r is)
-first_of_class tests Full r is blind = same_first (λ t. matches t r) (λ t. takes t Full) tests (λ i d there. matches_full _ r is)
-first_of_class tests (WithSense s) r is blind = same_first (λ t. matches t r) (λ t. takes t (WithSense s)) tests (λ i d there. matches_sense _ r s is)
+first_of_class tests Good r is blind = position_alike (λ t. matches t r) (λ t. takes t Good) tests (λ i d there. matches_good _ r is (blind i d there))
+first_of_class tests Conflict r is blind = position_alike (λ t. matches t r) (λ t. takes t Conflict) tests (λ i d there. matches_conflict _ r is)
+first_of_class tests Busy r is blind = position_alike (λ t. matches t r) (λ t. takes t Busy) tests (λ i d there. matches_busy _ r is)
+first_of_class tests Full r is blind = position_alike (λ t. matches t r) (λ t. takes t Full) tests (λ i d there. matches_full _ r is)
+first_of_class tests (WithSense s) r is blind = position_alike (λ t. matches t r) (λ t. takes t (WithSense s)) tests (λ i d there. matches_sense _ r s is)

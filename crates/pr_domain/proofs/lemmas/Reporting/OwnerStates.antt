@@ -1,5 +1,5 @@
 -- What is pending for the owner, and who is registered, after a command of the owner's.
-use Rattle.pr_domain.proofs.Common.{◌≡◌, ℕ, suc, ◌≤◌, Bool, true, false, not, ◌&&◌, ◌||◌, ◌⊎◌, List, [], ◌∷◌, length, if◌then◌else◌, ◌==◌, slice_get, Some, None, Option, sym, refl, ap, ◌∙◌, subst, inl, inr, arith, lit<, list_any, false≢true, and_parts, or_cases, nat_tests, slice_get_within, Command, power_on, reservations_preempted, reservations_released, registrations_preempted, code_of, codes_of, Attention, State, key_of, UnitState, is_pending, is_any_pending, effect, after_report, is_written_key, is_written, Scope, key_at, Attentions, IsSo}
+use Rattle.pr_domain.proofs.Common.{◌≡◌, ℕ, suc, ◌≤◌, Bool, true, false, not, ◌&&◌, ◌||◌, ◌⊎◌, List, [], ◌∷◌, length, if◌then◌else◌, ◌==◌, slice_get, Some, None, Option, sym, refl, ap, ◌∙◌, subst, inl, inr, arith, lit<, list_any, false≢true, and_parts, or_cases, nat_tests, slice_get_within, Command, power_on, reservations_preempted, reservations_released, registrations_preempted, code_of, codes_of, Attention, State, key_of, UnitState, is_pending, is_any_pending, effect, after_report, is_written_key, is_written, Scope, key_at, Attentions, IsSo, eq-eqb}
 use Rattle.std.specs.FinSet as set
 use Rattle.std.specs.FinMap as map
 use Rattle.std.proofs.lemmas.Bool.{false_from_ne_true}
@@ -14,7 +14,6 @@ use Rattle.pr_registry.specs.Registrations.{is_registered, others, holds_alone}
 use Rattle.pr_registry.specs.Changes.{no_change, removed_by_preempt, preempt_case, is_new_type, is_released, is_told_of_loss, change_on_unregister, change_on_preempt}
 use Rattle.pr_registry.specs.Effects.{with_registration, without_registration, after_register, after, change}
 use Rattle.pr_registry.proofs.lemmas.Sets.{contains-nobody, contains-difference, get-insert, get-empty, get-without}
-use Rattle.pr_registry.proofs.lemmas.Tables.{eq_itself}
 use Rattle.pr_unit.proofs.lemmas.Attentions.Pairs.{contains-remove-pair}
 use Rattle.pr_unit.proofs.lemmas.Attentions.ToldAttentions.{is_pending_after, contains-told}
 use Rattle.pr_script.specs.Grammar.{is_declared}
@@ -28,7 +27,7 @@ left_after : (s : Scope) (u : UnitState) (a : Attention) (q : ℕ) → IsSo s u 
     → (code : ℕ) → is_pending (after_report u s.own (code_of a)) s.own code ≡ set.contains (set.remove (codes_of q) (code_of a)) code
 left_after s u a q so code =
     contains-remove-pair u.pending (s.own, code_of a) (s.own, code)
-    ∙ (λ i. not (eq_itself s.own i && code == code_of a) && so.1 code i)
+    ∙ (λ i. not (eq-eqb s.own s.own refl i && code == code_of a) && so.1 code i)
     ∙ sym (contains-remove_code (codes_of q) (code_of a) code)
 
 pub after_reported : (s : Scope) (u : UnitState) (a : Attention) (q n : ℕ) → IsSo s u (Attentions q) → IsAfter q a n → IsSo s (after_report u s.own (code_of a)) (Attentions n)

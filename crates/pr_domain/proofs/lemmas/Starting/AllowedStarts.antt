@@ -1,9 +1,10 @@
 -- The view of the written alternatives shows each allowed start, and what is kept of it is so in one.
-use Rattle.pr_domain.proofs.Common.{◌≡◌, ℕ, zero, suc, ◌<◌, true, List, [], ◌∷◌, length, slice_get, Some, Contains, sym, ap, ◌∙◌, subst, arith, key_of, UnitState, is_pending, is_reservation, Scenario, nexus, view_in, Scope, number_of, count_of_reservations, Registration, Reservation, Attentions, IsSo, AreInRange, View, Shows, Possibilities, reservation_of, AreAlternatives}
+use Rattle.pr_domain.proofs.Common.{◌≡◌, ℕ, ◌<◌, true, Some, Contains, sym, ap, ◌∙◌, subst, key_of, UnitState, is_pending, is_reservation, Scenario, nexus, view_in, Scope, number_of, count_of_reservations, Registration, Reservation, Attentions, IsSo, AreInRange, View, Shows, Possibilities, reservation_of, AreAlternatives}
 use Rattle.pr_roles.specs.Fitting.{Fits as FitsAll, is_alternative}
 use Rattle.pr_roles.specs.Scenarios.{Nexus}
 use Rattle.pr_roles.specs.Starts.{IsAllowedStart}
 use Rattle.pr_roles.proofs.lemmas.FirstStarts.Existence.{all_pass}
+use Rattle.pr_roles.proofs.lemmas.Starts.AllowedStarts.{some_nexus}
 use Rattle.pr_domain.specs.Starting.{IsOfStart}
 use Rattle.pr_domain.specs.inside.Beginning.{registration_in}
 use Rattle.pr_regions.specs.Keeping.{IsKept, IsShownSo}
@@ -11,11 +12,6 @@ use Rattle.pr_domain.proofs.lemmas.Starting.ShownStarts.{starts_so}
 use Rattle.pr_domain.proofs.lemmas.Starting.CodeSubsets.{numbered}
 use Rattle.pr_regions.proofs.lemmas.Showing.AlikeViews.{IsSame, shows_within, reservation_below}
 use Rattle.pr_domain.proofs.lemmas.Starting.WrittenNumbers.{registration_below, registration_tells, start_fits}
-
-some_nexus : (ns : List Nexus) (g : ℕ) → g < length ns → (n : Nexus) × (slice_get ns g ≡ Some n)
-some_nexus [] g small = absurd (omega arith)
-some_nexus (n ∷ ns) zero small = (n, λ i. Some n)
-some_nexus (n ∷ ns) (suc g) small = some_nexus ns g (omega arith)
 
 pub start_shown : (sc : Scenario) (s : Scope) (p : Possibilities) (u : UnitState) → FitsAll sc → s.keys ≡ sc.keys → s.own < s.hosts → AreAlternatives sc s p → IsAllowedStart sc u
     → Shows (view_in s p) u
@@ -41,7 +37,7 @@ start_shown sc s p u fits keys owned are allowed = record {
     hosts = allowed.hosts ∙ sym are.hosts
 
     at : (g : ℕ) → g < s.hosts → (n : Nexus) × (nexus sc g ≡ Some n)
-    at g there = some_nexus sc.nexuses g (subst (λ m. g < m) are.hosts there)
+    at g there = some_nexus sc g (subst (λ m. g < m) are.hosts there)
 
     held : is_reservation s.hosts u.registry.held ≡ true
     held = subst (λ m. is_reservation m u.registry.held ≡ true) hosts (reservation_of u.registry allowed.formed.registry)

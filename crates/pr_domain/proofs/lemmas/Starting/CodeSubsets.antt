@@ -2,6 +2,7 @@
 use Rattle.pr_domain.proofs.Common.{◌≡◌, ℕ, ◌+◌, ◌<◌, Bool, true, false, not, ◌&&◌, ◌||◌, ◌↔◌, List, [], ◌∷◌, if◌then◌else◌, IsTrue, ◌==◌, sym, refl, ap, ◌∙◌, lit<, list_all, false≢true, and_parts, has, BitSet, power_on, reservations_preempted, reservations_released, registrations_preempted, code_of, codes_of, Attention, PowerOn, ReservationsPreempted, ReservationsReleased, RegistrationsPreempted, stays, ATTENTION_SETS}
 use Rattle.std.specs.FinSet as set
 use Rattle.std.specs.Int.{bit_at}
+use Rattle.std.proofs.lemmas.Bool.{false_from_ne_true}
 use Rattle.pr_attention.specs.Attentions.{is_attention, Codes}
 use Rattle.pr_attention.specs.Flagged.{place_of}
 use Rattle.pr_attention.proofs.lemmas.Bits.{contains-codes_of, AreAttentions-codes_of}
@@ -106,14 +107,10 @@ numbered test known = (q, bits.few, λ code. at code (is_attention code) refl)
     one : (a : Attention) → test (code_of a) ≡ set.contains (codes_of q) (code_of a)
     one a = sym (contains-codes_of q (code_of a) ∙ ap (λ b. b && (bit_at q (place_of (code_of a)) == 1)) (is_attention-code_of a) ∙ bit a)
 
-    never : (b : Bool) (P : b ≡ true → ⊥) → b ≡ false
-    never true none = absurd (none refl)
-    never false none = refl
-
     at : (code : ℕ) (b : Bool) → is_attention code ≡ b → test code ≡ set.contains (codes_of q) code
     at code true is = let a = which code is in ap test a.1 ∙ one a.0 ∙ ap (set.contains (codes_of q)) (sym a.1)
     at code false is =
-        never (test code) (λ passes. false≢true (sym is ∙ known code passes))
+        false_from_ne_true (test code) (λ passes. false≢true (sym is ∙ known code passes))
         ∙ sym (contains-codes_of q code ∙ ap (λ b. b && (bit_at q (place_of code) == 1)) is)
 
 -- ---- all the sets within another

@@ -1,5 +1,5 @@
 -- Starts that a view of the alternatives shows: with nothing pending for the others they are allowed.
-use Rattle.pr_domain.proofs.Common.{◌≡◌, ℕ, ◌<◌, true, ◌&&◌, ◌==◌, Some, Contains, sym, refl, ap, ◌∙◌, subst, arith, and_parts, nat_tests, has_wide, codes_of, UnitState, is_pending, IsWellFormed, is_reservation, Scenario, nexus, view_in, Scope, Item, Attentions, IsSo, Shows, Possibilities, reservation_of, AreAlternatives}
+use Rattle.pr_domain.proofs.Common.{◌≡◌, ℕ, ◌<◌, true, ◌&&◌, ◌==◌, Some, Contains, sym, refl, ap, ◌∙◌, subst, and_parts, has_wide, codes_of, UnitState, is_pending, IsWellFormed, is_reservation, Scenario, nexus, view_in, Scope, Item, Attentions, IsSo, Shows, Possibilities, reservation_of, AreAlternatives, eq-eqb, eqb-true}
 use Rattle.std.specs.FinSet as set
 use Rattle.pr_unit.specs.Attentions.{of_host}
 use Rattle.pr_unit.proofs.lemmas.Attentions.Pairs.{contains-of_host}
@@ -11,23 +11,17 @@ use Rattle.pr_regions.proofs.lemmas.Showing.AlikeStates.{so_like}
 abbrev pub alone : UnitState → ℕ → ℕ → UnitState
 alone u own q = record { registry = u.registry; pending = of_host own (codes_of q) }
 
-itself : (a : ℕ) → (a == a) ≡ true
-itself a = grind (arith, nat_tests)
-
-same_number : (a b : ℕ) → (a == b) ≡ true → a ≡ b
-same_number a b is = grind (arith, nat_tests)
-
 pub like_alone : (s : Scope) (u : UnitState) (q : ℕ) → IsSo s u (Attentions q) → IsLike s.own u (alone u s.own q)
 like_alone s u q so = record {
   registry = refl;
-  pending = λ code. contains-of_host s.own (codes_of q) s.own code ∙ ap (λ b. b && set.contains (codes_of q) code) (itself s.own) ∙ sym (so.1 code);
+  pending = λ code. contains-of_host s.own (codes_of q) s.own code ∙ ap (λ b. b && set.contains (codes_of q) code) (eq-eqb s.own s.own refl) ∙ sym (so.1 code);
 }
 
 -- what is pending in it
 pub pending_alone : (s : Scope) (u : UnitState) (q h code : ℕ) → is_pending (alone u s.own q) h code ≡ true → (h ≡ s.own) × (set.contains (codes_of q) code ≡ true)
 pending_alone s u q h code is =
     let parts = and_parts (h == s.own) (set.contains (codes_of q) code) (sym (contains-of_host s.own (codes_of q) h code) ∙ is) in
-    (same_number h s.own parts.0, parts.1)
+    (eqb-true h s.own parts.0, parts.1)
 
 pub formed_alone : (s : Scope) (u : UnitState) (q : ℕ) → IsSo s u (Attentions q) → IsWellFormed u → IsWellFormed (alone u s.own q)
 formed_alone s u q so formed = record {

@@ -1,5 +1,5 @@
 -- The numbers of what a scenario writes of its starts.
-use Rattle.pr_domain.proofs.Common.{◌≡◌, ℕ, ◌<◌, ◌≤◌, Bool, true, false, not, ◌&&◌, ◌⊎◌, ◌↔◌, List, map, length, ◌==◌, slice_get, Some, None, Contains, Option, option_map, sym, refl, ap, ◌∙◌, subst, inl, inr, arith, list_all, option_map_or, false≢true, cases_lt, and_parts, nat_tests, same_Some, slice_get_within, has_wide, has, MOST_NEXUSES, codes_of, Held, is_reservation, AreDeclared, Scenario, nexus, scenario_of, has_at, key_at, number_of, count_of_reservations, AreInRange, Possibilities, may_have, has_reservation, AreAlternatives}
+use Rattle.pr_domain.proofs.Common.{◌≡◌, ℕ, ◌<◌, ◌≤◌, Bool, true, false, not, ◌&&◌, ◌⊎◌, ◌↔◌, List, map, length, ◌==◌, slice_get, Some, None, Contains, Option, option_map, sym, refl, ap, ◌∙◌, subst, inl, inr, arith, list_all, option_map_or, false≢true, cases_lt, and_parts, same_Some, slice_get_within, has_wide, has, MOST_NEXUSES, codes_of, Held, is_reservation, AreDeclared, Scenario, nexus, scenario_of, has_at, key_at, number_of, count_of_reservations, AreInRange, Possibilities, may_have, has_reservation, AreAlternatives, eq-eqb, eqb-true}
 use Rattle.std.proofs.Common.{vec_len}
 use Rattle.std.proofs.lemmas.List.Folds.{Any-from_list_any, list_any-from_Any}
 use Rattle.std.proofs.lemmas.Option.{slice_get-map, slice_get_past, none-some}
@@ -14,17 +14,11 @@ use Rattle.pr_roles.proofs.lemmas.Starts.AllowedStarts.{counted, each_nexus}
 use Rattle.pr_roles.proofs.lemmas.FirstStarts.Existence.{all_pass, slice_get_contains}
 use Rattle.pr_roles.proofs.lemmas.Scenarios.Parts.{count_of_parts}
 use Rattle.pr_views.specs.Possibilities.{count_of_attentions}
-use Rattle.pr_views.proofs.lemmas.Possibilities.Numbers.{same_held, same_registration}
+use Rattle.pr_views.proofs.lemmas.Possibilities.Numbers.{same_held, same_registration, once_of}
 use Rattle.pr_regions.specs.Purposes.{number_in}
 use Rattle.pr_regions.proofs.lemmas.Purposes.Conduct.{number_named, declared_number}
 use Rattle.pr_domain.specs.inside.Beginning.{AreAmong, registration_in, has_alternative, scope_in}
 use Rattle.pr_regions.proofs.lemmas.Showing.AlikeViews.{number_below}
-
-same_number : (a b : ℕ) → (a == b) ≡ true → a ≡ b
-same_number a b is = grind (arith, nat_tests)
-
-itself : (a b : ℕ) → a ≡ b → (a == b) ≡ true
-itself a b same = grind (arith, nat_tests)
 
 -- ---- registrations
 
@@ -53,19 +47,19 @@ alternative_tells keys alternatives r declared all small = (λ is. there is, λ 
         let found = Any-from_list_any test alternatives is in
         let contains : Contains alternatives found.1 = (found.0, found.2, found.3) in
         let tells = registration_tells keys found.1 (all_pass (is_alternative keys) alternatives found.1 all contains) in
-        subst (Contains alternatives) (sym tells ∙ ap (key_at keys) (same_number (registration_in keys found.1) r found.4)) contains
+        subst (Contains alternatives) (sym tells ∙ ap (key_at keys) (eqb-true (registration_in keys found.1) r found.4)) contains
 
     number : Contains alternatives (key_at keys r) → has_alternative keys alternatives r ≡ true
     number contains =
         let key = key_at keys r in
         let tells = registration_tells keys key (all_pass (is_alternative keys) alternatives key all contains) in
-        let same = same_registration keys (registration_in keys key) r declared (registration_below keys key) small tells in
-        list_any-from_Any test alternatives (contains.0, key, contains.1, contains.2, itself (registration_in keys key) r same)
+        let same = same_registration keys (registration_in keys key) r (once_of keys declared) (registration_below keys key) small tells in
+        list_any-from_Any test alternatives (contains.0, key, contains.1, contains.2, eq-eqb (registration_in keys key) r same)
 
 alternative_below : (keys : List ℕ) (alternatives : List (Option ℕ)) (r : ℕ) → has_alternative keys alternatives r ≡ true → r ≤ length keys
 alternative_below keys alternatives r is =
     let found = Any-from_list_any (λ key. registration_in keys key == r) alternatives is in
-    subst (λ n. n ≤ length keys) (same_number (registration_in keys found.1) r found.4) (registration_below keys found.1)
+    subst (λ n. n ≤ length keys) (eqb-true (registration_in keys found.1) r found.4) (registration_below keys found.1)
 
 pub may_have_below : (keys : List ℕ) (nexuses : List NexusPart) (g r : ℕ) → may_have keys nexuses g r ≡ true → r ≤ length keys
 may_have_below keys nexuses g r is = at (slice_get nexuses g) is
@@ -99,18 +93,18 @@ reservation_tells hosts reservations held all fits = (λ is. there is, λ contai
         let found = Any-from_list_any test reservations is in
         let contains : Contains reservations found.1 = (found.0, found.2, found.3) in
         let also = all_pass (is_reservation hosts) reservations found.1 all contains in
-        subst (Contains reservations) (same_held hosts found.1 held also fits (same_number (number_of hosts found.1) (number_of hosts held) found.4)) contains
+        subst (Contains reservations) (same_held hosts found.1 held also fits (eqb-true (number_of hosts found.1) (number_of hosts held) found.4)) contains
 
     number : Contains reservations held → has_reservation hosts reservations (number_of hosts held) ≡ true
     number contains =
-        list_any-from_Any test reservations (contains.0, held, contains.1, contains.2, itself (number_of hosts held) (number_of hosts held) refl)
+        list_any-from_Any test reservations (contains.0, held, contains.1, contains.2, eq-eqb (number_of hosts held) (number_of hosts held) refl)
 
 pub reservation_in_range : (hosts : ℕ) (reservations : List (Option Held)) (x : ℕ) → list_all (is_reservation hosts) reservations ≡ true → has_reservation hosts reservations x ≡ true
     → x < count_of_reservations hosts
 reservation_in_range hosts reservations x all is =
     let found = Any-from_list_any (λ held. number_of hosts held == x) reservations is in
     let fits = all_pass (is_reservation hosts) reservations found.1 all (found.0, found.2, found.3) in
-    subst (λ n. n < count_of_reservations hosts) (same_number (number_of hosts found.1) x found.4) (number_below hosts found.1 fits)
+    subst (λ n. n < count_of_reservations hosts) (eqb-true (number_of hosts found.1) x found.4) (number_below hosts found.1 fits)
 
 -- ---- what fitting says
 

@@ -1,6 +1,7 @@
 -- READ KEYS and READ RESERVATION: which arm takes their data.
-use Rattle.pr_domain.proofs.Common.{◌≡◌, ℕ, ◌+◌, ◌<◌, ◌≤◌, Bool, true, false, ◌||◌, ◌⊎◌, List, length, IfSome, IfNone, ◌==◌, slice_get, Some, None, All, Contains, Option, sym, refl, ap, ◌∙◌, subst, inl, inr, arith, false≢true, and_parts, cases_order, cases_eq, nat_tests, same_Some, slice_get-get_or, has, BitSet, Command, State, key_of, good, data_of, UnitState, is_written_key, test_fits, matches, Test, view_in, Scope, Shows, Possibilities, one_registration, IsPlace, IsAt, purpose_of, is_refused, first_test, standing_of, Place, Branch, Reading, Transition, same_reservation, Tally, arm_of, Grows, IsRight, HasBoth, IsOwners, IsReadAt, IsReadFirst, MOST_ARMS}
+use Rattle.pr_domain.proofs.Common.{◌≡◌, ℕ, ◌+◌, ◌<◌, ◌≤◌, true, false, ◌||◌, ◌⊎◌, List, length, IfSome, IfNone, ◌==◌, slice_get, Some, None, All, Contains, Option, sym, refl, ap, ◌∙◌, subst, inl, inr, arith, false≢true, and_parts, cases_order, cases_eq, nat_tests, same_Some, slice_get-get_or, has, BitSet, Command, State, key_of, good, data_of, UnitState, is_written_key, test_fits, matches, Test, view_in, Scope, Shows, Possibilities, one_registration, IsPlace, IsAt, purpose_of, is_refused, first_test, standing_of, Place, Branch, Reading, Transition, same_reservation, Tally, arm_of, Grows, IsRight, HasBoth, IsOwners, IsReadAt, IsReadFirst, MOST_ARMS}
 use Rattle.std.proofs.Common.{position}
+use Rattle.std.proofs.lemmas.Bool.{or_parts}
 use Rattle.std.proofs.lemmas.List.Elements.{All-weaker}
 use Rattle.std.proofs.lemmas.List.Quantifiers.{position-Some}
 use Rattle.pr_cdb.specs.declared.command.Command.TheVariants as command
@@ -145,17 +146,12 @@ readings_cover s keys c tests view place r readings owners are u shown both =
 
 -- ---- the other commands
 
-or_neither : (a b : Bool) → (a || b) ≡ false → (a ≡ false) × (b ≡ false)
-or_neither false false is = (refl, refl)
-or_neither false true is = absurd (false≢true (sym is))
-or_neither true b is = absurd (false≢true (sym is))
-
 -- no test looks at the data of a command that returns none of it
 blind : (keys : List ℕ) (c : Command) (tests : List Test) → (is_read_keys c || is_read_reservation c) ≡ false → All (λ t. test_fits keys c t ≡ true) tests → AreBlind tests class.Good
 blind keys c tests none fit = All-weaker (λ t. test_fits keys c t ≡ true) (λ t. looks t ≡ false) each tests fit
   where
     neither : (is_read_keys c ≡ false) × (is_read_reservation c ≡ false)
-    neither = or_neither (is_read_keys c) (is_read_reservation c) none
+    neither = or_parts (is_read_keys c) (is_read_reservation c) none
 
     each : (t : Test) → test_fits keys c t ≡ true → looks t ≡ false
     each (test.GoodHas key) is = absurd (false≢true (sym neither.0 ∙ (and_parts (is_read_keys c) (is_declared keys key) is).0))

@@ -1,7 +1,6 @@
 -- What a tally has once the states of one region are added.
-use Rattle.pr_domain.proofs.Common.{◌≡◌, ℕ, zero, suc, ◌<◌, ◌≤◌, true, false, ◌&&◌, ◌||◌, ◌≢◌, ◌⊎◌, List, is_some, if◌then◌else◌, ◌==◌, Some, None, Option, sym, refl, ap, ◌∙◌, subst, inl, inr, false≢true, cases_lt, and_parts, or_cases, and_from, or_left, or_right, eqb_tells, has_wide, has, BitSet, Command, Sense, command_conflicts, command_fault, good, data_of, UnitState, effect, Test, has_at, view_in, Scope, Item, Registration, Reservation, Attentions, IsSo, View, Shows, Possibilities, one_registration, IsPlace, IsAt, first_test, Place, Branch, Region, Transition, Tally, IsRegistered, has_part, has_tallied, arm_of, Leaves, IsFound, Grows, IsRight}
+use Rattle.pr_domain.proofs.Common.{◌≡◌, ℕ, zero, suc, ◌<◌, ◌≤◌, true, false, ◌&&◌, ◌||◌, ◌≢◌, ◌⊎◌, List, is_some, if◌then◌else◌, ◌==◌, Some, None, Option, sym, refl, ap, ◌∙◌, subst, inl, inr, false≢true, cases_lt, and_parts, or_cases, and_from, or_left, or_right, eqb_tells, has_wide, has, BitSet, Command, Sense, command_conflicts, command_fault, good, data_of, UnitState, effect, Test, has_at, view_in, Scope, Item, Registration, Reservation, Attentions, IsSo, View, Shows, Possibilities, one_registration, IsPlace, IsAt, first_test, Place, Branch, Region, Transition, Tally, IsRegistered, has_part, has_tallied, arm_of, Leaves, IsFound, Grows, IsRight, eq-eqb, eqb-true}
 use Rattle.std.proofs.Common.{unwrap_or}
-use Rattle.std.proofs.lemmas.Bool.{eqb-true, eq-eqb}
 use Rattle.std.proofs.Math.Logic.{⊎_elim}
 use Rattle.pr_regions.specs.declared.region.Ending.TheVariants as ending
 use Rattle.pr_regions.specs.Regions.{Ends, Changes}

@@ -1,5 +1,5 @@
 -- A state under a reservation of another type that has the same holders: a command that reads ends alike there.
-use Rattle.pr_domain.proofs.Common.{◌≡◌, ℕ, zero, suc, ◌+◌, ◌<◌, true, false, not, ◌&&◌, ◌||◌, ◌⊎◌, List, is_some, nat_lt, ◌==◌, Some, None, Option, option_map, sym, refl, ap, ◌∙◌, subst, inl, inr, arith, false≢true, not-true, and_parts, cases_order, cases_eq, or_cases, and_from, or_left, or_right, nat_tests, has_wide, has, Command, Held, One, command_conflicts, command_fault, good, data_of, UnitState, effect, is_written, test_fits, Test, is_reservation, view_in, Scope, number_of, Item, Registration, Reservation, Attentions, IsSo, Shows, Possibilities, IsPlace, first_test, Place, same_reservation, Tally, IsRegistered, has_tallied, Leaves, IsFound, Grows, IsReserved, IsOwners}
+use Rattle.pr_domain.proofs.Common.{◌≡◌, ℕ, zero, suc, ◌+◌, ◌<◌, true, false, not, ◌&&◌, ◌||◌, ◌⊎◌, List, is_some, nat_lt, ◌==◌, Some, None, Option, option_map, sym, refl, ap, ◌∙◌, subst, inl, inr, arith, false≢true, not-true, and_parts, cases_order, cases_eq, or_cases, and_from, or_left, or_right, nat_tests, has_wide, has, Command, Held, One, command_conflicts, command_fault, good, data_of, UnitState, effect, is_written, test_fits, Test, is_reservation, view_in, Scope, number_of, Item, Registration, Reservation, Attentions, IsSo, Shows, Possibilities, IsPlace, first_test, Place, same_reservation, Tally, IsRegistered, has_tallied, Leaves, IsFound, Grows, IsReserved, IsOwners, eq-eqb}
 use Rattle.std.proofs.Common.{unwrap_or}
 use Rattle.std.specs.FinMap as map
 use Rattle.std.specs.List.{All as Each}
@@ -155,9 +155,6 @@ module _ (s : Scope) (view : Possibilities) (c : Command) (tests : List Test) (r
       shown_place u shown so =
           shown_retyped s view u place.held shown (under_place u shown so) (held_at s view place owners.is) (subst (λ y. has_wide view.reservations y ≡ true) (number_at s view place owners.is) owners.is.possible)
 
-      itself : (y : ℕ) → (y == y) ≡ true
-      itself y = grind (arith, nat_tests)
-
       here : (u : UnitState) (way : ℕ) (i : Item) → Shows (view_in s view) u → IsSo s u (Reservation n) → Leaves s c tests way u i → has_tallied new way i ≡ true
       here u way (Registration g r) shown so leaves =
           let also = shown_twin u shown so in
@@ -169,7 +166,7 @@ module _ (s : Scope) (view : Possibilities) (c : Command) (tests : List Test) (r
           (leaves_alike u twin.twin way (Reservation y) (Reservation x) shown also (under_twin u shown so) leaves (number_at s view other is_other)) in
           let same : y ≡ n = left_there s c tests reads u way (Reservation y) leaves ∙ sym so in
           joined way (Reservation y)
-          ∙ or_right (has_tallied old way (Reservation y)) (y == n && has_tallied old way (Reservation x)) (and_from (y == n) (has_tallied old way (Reservation x)) (subst (λ z. (y == z) ≡ true) same (itself y)) had)
+          ∙ or_right (has_tallied old way (Reservation y)) (y == n && has_tallied old way (Reservation x)) (and_from (y == n) (has_tallied old way (Reservation x)) (subst (λ z. (y == z) ≡ true) same (eq-eqb y y refl)) had)
       here u way (Attentions q) shown so leaves = absurd (left_there s c tests reads u way (Attentions q) leaves)
 
       all : (u : UnitState) (way : ℕ) (i : Item) → Shows (view_in s view) u → Leaves s c tests way u i → (among : IsReserved s (n + 1) u) → (among.reservation ≡ n) ⊎ (among.reservation ≡ n → ⊥) → has_tallied new way i ≡ true

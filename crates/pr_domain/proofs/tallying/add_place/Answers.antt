@@ -1,4 +1,5 @@
-use Rattle.pr_domain.proofs.Common.{◌≡◌, ℕ, ◌+◌, ◌<◌, Bool, true, false, not, ◌&&◌, ◌⊎◌, length, sym, refl, ap, ◌∙◌, subst, inl, inr, arith, false≢true, cases_eq, cases_order, has, has_at, view_in, holds_at-get_or, Grows, HasOneOf, HasFirst}
+use Rattle.pr_domain.proofs.Common.{◌≡◌, ℕ, ◌+◌, ◌<◌, Bool, true, false, not, ◌&&◌, ◌⊎◌, length, sym, refl, ap, ◌∙◌, subst, inl, inr, arith, false≢true, has, has_at, view_in, holds_at-get_or, Grows, HasOneOf, HasFirst}
+use Rattle.std.proofs.Common.{below_more}
 use Rattle.std.specs.Prelude.{slice_index_or, ◌≤◌, List}
 use Rattle.std.proofs.lemmas.Bool.{cases_lt, or_left, or_right}
 use Rattle.pr_sets.specs.declared.bit_set.BitSet.{BitSet}
@@ -20,14 +21,6 @@ has_here words g r d is = at (cases_lt g (length words))
     at : (g < length words) ⊎ (length words ≤ g) → has (slice_index_or words g d) r ≡ true
     at (inl small) = sym (holds_at-get_or (λ w. has w r) words g d small) ∙ is
     at (inr past) = absurd (false≢true (sym (holds_at_past (λ w. has w r) words g past) ∙ is))
-
--- of the numbers below the next one
-below_next : (n : ℕ) (P : ℕ → Type 0) → ((r : ℕ) → r < n → P r) → P n → (r : ℕ) → r < n + 1 → P r
-below_next n P before this r small = at (cases_eq r n)
-  where
-    at : (r ≡ n) ⊎ (r ≡ n → ⊥) → P r
-    at (inl same) = subst P (sym same) this
-    at (inr other) = before r (let o : r < n = omega (arith, cases_order r n) in o)
 
 pub loop-registration-init : goal.loop-registration-init
 loop-registration-init c = record {
@@ -52,7 +45,7 @@ loop-registration-preserved c =
             let more = senders_more view s command tests c.args.place done w.alike_to-alike.result w.or-done.result old c.loop-registration.tally w.add_alike.new.tally w.or-done.ensures (known.grows s owners) (w.add_alike.ensures s owners) in
             subst (λ d. Grows view command tests old c.if-has.tally (HasOneOf s c.args.place d)) (sym w.done-is) (subst (λ t. Grows view command tests old t (HasOneOf s c.args.place w.or-done.result)) (sym w.tally-is) more);
         done = subst (λ d. (r : ℕ) → r < n + 1 → has possible r ≡ true → has d r ≡ true) (sym w.done-is)
-            (below_next n (λ r. has possible r ≡ true → has w.or-done.result r ≡ true)
+            (below_more (λ r. has possible r ≡ true → has w.or-done.result r ≡ true) n
             (λ r small may. w.or-done.ensures r ∙ or_left (has done r) (has w.alike_to-alike.result r) (known.done r small may))
             (λ may. w.or-done.ensures n ∙ or_right (has done n) (has w.alike_to-alike.result n) w.alike_to-alike.ensures.itself));
         bound = omega arith;
@@ -62,7 +55,7 @@ loop-registration-preserved c =
             let view = view_in s c.args.view.now in
             subst (λ d. Grows view command tests old c.if-has.tally (HasOneOf s c.args.place d)) (sym w.done-is) (subst (λ t. Grows view command tests old t (HasOneOf s c.args.place done)) (sym w.tally-is) (known.grows s owners));
         done = subst (λ d. (r : ℕ) → r < n + 1 → has possible r ≡ true → has d r ≡ true) (sym w.done-is)
-            (below_next n (λ r. has possible r ≡ true → has done r ≡ true) known.done (done_if (has possible n) (has done n) (sym (c.except-left.ensures n) ∙ sym c.has.ensures ∙ w.if-has.false)));
+            (below_more (λ r. has possible r ≡ true → has done r ≡ true) n known.done (done_if (has possible n) (has done n) (sym (c.except-left.ensures n) ∙ sym c.has.ensures ∙ w.if-has.false)));
         bound = omega arith;
       }
     ]

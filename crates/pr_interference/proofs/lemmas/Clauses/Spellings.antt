@@ -1,6 +1,7 @@
 -- A command of each clause, with the sender's own key; and which commands are refused for their key.
-use Rattle.pr_interference.proofs.Common.{◌≡◌, ℕ, ◌<◌, Bool, true, false, not, ◌&&◌, ◌||◌, List, if◌then◌else◌, ◌==◌, Some, None, Option, sym, refl, ap, ◌∙◌, subst, arith, false≢true, and_from, nat_tests, Command, Kind, Plain, is_kind, State, key_of, kind_of, IsKey, Held, request_looks, is_declared, is_action, AreDeclared, names, Action, number_in, purpose_of_preempt, purpose_of, Purpose, Register, Unregister, Reserve, Release, Clear, PreemptAll, Preempt, purpose_for}
+use Rattle.pr_interference.proofs.Common.{◌≡◌, ℕ, ◌<◌, Bool, true, false, not, ◌&&◌, ◌||◌, List, if◌then◌else◌, ◌==◌, Some, None, Option, sym, refl, ap, ◌∙◌, subst, false≢true, and_from, Command, Kind, Plain, is_kind, State, key_of, kind_of, IsKey, Held, request_looks, is_declared, is_action, AreDeclared, names, Action, number_in, purpose_of_preempt, purpose_of, Purpose, Register, Unregister, Reserve, Release, Clear, PreemptAll, Preempt, purpose_for, eq-eqb, eqb-true}
 use Rattle.std.proofs.Common.{◌^◌, lit<}
+use Rattle.std.proofs.lemmas.Bool.{or_parts}
 use Rattle.pr_cdb.specs.declared.command.Command.TheVariants as command
 use Rattle.pr_cdb.specs.Kinds.{code_of}
 use Rattle.pr_cdb.specs.Ranges.{Fits}
@@ -15,26 +16,16 @@ use Rattle.pr_regions.specs.Purposes.{purpose_of_register, is_refused, is_in_ran
 use Rattle.pr_interference.specs.inside.Clauses.{refuses_strangers}
 use Rattle.pr_interference.proofs.lemmas.Clauses.Commands.{declared_key, registers_key}
 
-same_number : (a b : ℕ) → (a == b) ≡ true → a ≡ b
-same_number a b is = grind (arith, nat_tests)
-
-itself : (a : ℕ) → (a == a) ≡ true
-itself a = grind (arith, nat_tests)
-
 -- ---- refused commands
-
-first_false : (a b : Bool) → (a || b) ≡ false → a ≡ false
-first_false true b is = is
-first_false false b is = refl
 
 -- what does not conflict is not refused
 pub not_refused : (u : State) (h : ℕ) (c : Command) → command_conflicts u h c ≡ false → is_refused (key_of u h) c ≡ false
 not_refused u h (command.Register rk sark) free = free
-not_refused u h (command.Reserve rk kind) free = first_false (lacks_key u h rk) (conflicts_with_reserve u h u.held kind) free
+not_refused u h (command.Reserve rk kind) free = (or_parts (lacks_key u h rk) (conflicts_with_reserve u h u.held kind) free).0
 not_refused u h (command.Release rk kind) free = free
 not_refused u h (command.Clear rk) free = free
-not_refused u h (command.Preempt rk sark kind) free = first_false (lacks_key u h rk) (not (sark == 0) && has_no_registrant u.keys sark) free
-not_refused u h (command.PreemptAbort rk sark kind) free = first_false (lacks_key u h rk) (not (sark == 0) && has_no_registrant u.keys sark) free
+not_refused u h (command.Preempt rk sark kind) free = (or_parts (lacks_key u h rk) (not (sark == 0) && has_no_registrant u.keys sark) free).0
+not_refused u h (command.PreemptAbort rk sark kind) free = (or_parts (lacks_key u h rk) (not (sark == 0) && has_no_registrant u.keys sark) free).0
 not_refused u h _ free = refl
 
 -- a purpose that admits strangers
@@ -74,7 +65,7 @@ written_few : (keys : List ℕ) (key : ℕ) → AreDeclared keys → is_written_
 written_few keys key declared is = at (key == 0) refl is
   where
     at : (b : Bool) → (key == 0) ≡ b → (b || is_declared keys key) ≡ true → key < 2 ^ 64
-    at true zero any = subst (λ n. n < 2 ^ 64) (sym (same_number key 0 zero)) (lit< tt)
+    at true zero any = subst (λ n. n < 2 ^ 64) (sym (eqb-true key 0 zero)) (lit< tt)
     at false other any = (declared_key keys key declared any).1
 
 spells_register : (keys : List ℕ) (key : ℕ) (own : Option ℕ) (p : Purpose) → AreDeclared keys → is_declared keys key ≡ true → Some (Register (number_in keys key)) ≡ Some p
@@ -83,8 +74,8 @@ spells_register keys key own p declared fits meant = record {
   command = command.RegisterIgnore key;
   fits = (declared_key keys key declared fits).1;
   acts = refl;
-  named = and_from (key == key) true (itself key) refl;
-  asked = registers_key keys key key declared fits (itself key) ∙ meant;
+  named = and_from (key == key) true (eq-eqb key key refl) refl;
+  asked = registers_key keys key key declared fits (eq-eqb key key refl) ∙ meant;
   accepted = refl;
 }
 
@@ -103,19 +94,19 @@ pub spells : (keys : List ℕ) (a : Action) (held : Option Held) (rk : ℕ) (p :
 spells keys (action.Register key) held rk p declared fits own meant = spells_register keys key (Some rk) p declared fits meant
 spells keys action.Unregister held rk p declared fits own meant = spells_unregister keys (Some rk) p meant
 spells keys (action.Reserve kind) held rk p declared fits own meant =
-    record { command = command.Reserve rk kind; fits = own.1; acts = refl; named = and_from (is_kind kind kind) true (itself (code_of kind)) refl; asked = meant; accepted = ap not (itself rk) }
+    record { command = command.Reserve rk kind; fits = own.1; acts = refl; named = and_from (is_kind kind kind) true (eq-eqb (code_of kind) (code_of kind) refl) refl; asked = meant; accepted = ap not (eq-eqb rk rk refl) }
 spells keys action.Release None rk p declared fits own meant = let bad : None ≡ Some p = meant in cc
 spells keys action.Release (Some v) rk p declared fits own meant =
-    record { command = command.Release rk (kind_of v); fits = own.1; acts = refl; named = refl; asked = meant; accepted = ap not (itself rk) }
+    record { command = command.Release rk (kind_of v); fits = own.1; acts = refl; named = refl; asked = meant; accepted = ap not (eq-eqb rk rk refl) }
 spells keys action.Clear held rk p declared fits own meant =
-    record { command = command.Clear rk; fits = own.1; acts = refl; named = refl; asked = meant; accepted = ap not (itself rk) }
+    record { command = command.Clear rk; fits = own.1; acts = refl; named = refl; asked = meant; accepted = ap not (eq-eqb rk rk refl) }
 spells keys (action.Preempt key kind) held rk p declared fits own meant = record {
   command = command.Preempt rk key (Some kind);
   fits = (own.1, written_few keys key declared fits);
   acts = refl;
-  named = and_from (key == key) (is_kind kind kind && true) (itself key) (and_from (is_kind kind kind) true (itself (code_of kind)) refl);
+  named = and_from (key == key) (is_kind kind kind && true) (eq-eqb key key refl) (and_from (is_kind kind kind) true (eq-eqb (code_of kind) (code_of kind) refl) refl);
   asked = meant;
-  accepted = ap not (itself rk);
+  accepted = ap not (eq-eqb rk rk refl);
 }
 spells keys action.Read held rk p declared fits own meant = let bad : None ≡ Some p = meant in cc
 spells keys action.Write held rk p declared fits own meant = let bad : None ≡ Some p = meant in cc

@@ -1,6 +1,7 @@
 -- States that differ in what is pending for one nexus alone: views of the others show them alike.
-use Rattle.pr_interference.proofs.Common.{◌≡◌, ℕ, Bool, true, false, not, ◌&&◌, ◌||◌, ◌≢◌, ◌==◌, sym, refl, ap, ◌∙◌, arith, nat_tests, Command, State, UnitState, effect, Registration, Reservation, Attentions, View, Shows, is_pending_after, contains-told, IsLike, so_like}
+use Rattle.pr_interference.proofs.Common.{◌≡◌, ℕ, true, false, not, ◌&&◌, ◌||◌, ◌≢◌, ◌==◌, sym, refl, ap, ◌∙◌, arith, nat_tests, Command, State, UnitState, effect, Registration, Reservation, Attentions, View, Shows, is_pending_after, contains-told, IsLike, so_like}
 use Rattle.std.specs.FinSet as set
+use Rattle.std.proofs.Math.Bool.{and-false}
 use Rattle.pr_attention.specs.Attentions.{power_on, reservations_preempted, reservations_released, registrations_preempted}
 use Rattle.pr_registry.specs.Effects.{after, change}
 use Rattle.pr_unit.specs.Attentions.{Pairs}
@@ -73,11 +74,7 @@ gone s h code =
     contains-remove-pair s (h, code) (h, code) ∙ (λ i. not (host i && same i) && set.contains s (h, code))
 
 stays_gone : (s : Pairs) (h k code : ℕ) → set.contains s (h, code) ≡ false → set.contains (set.remove s (h, k)) (h, code) ≡ false
-stays_gone s h k code is = contains-remove-pair s (h, k) (h, code) ∙ ap (λ b. not (h == h && code == k) && b) is ∙ none (not (h == h && code == k))
-  where
-    none : (b : Bool) → (b && false) ≡ false
-    none true = refl
-    none false = refl
+stays_gone s h k code is = contains-remove-pair s (h, k) (h, code) ∙ ap (λ b. not (h == h && code == k) && b) is ∙ and-false (not (h == h && code == k))
 
 pub none_cleared : (u : UnitState) (h : ℕ) → is_any_pending (cleared u h) h ≡ false
 none_cleared u h =

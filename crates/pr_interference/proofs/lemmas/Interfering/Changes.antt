@@ -1,5 +1,5 @@
 -- What is possible after a change, from what is gathered before it.
-use Rattle.pr_interference.proofs.Common.{◌≡◌, ℕ, ◌<◌, ◌≤◌, true, false, ◌≢◌, ◌⊎◌, List, ◌==◌, sym, ◌∙◌, subst, inl, inr, arith, eqb_tells, nat_tests, has_wide, has, BitSet, MOST_NEXUSES, UnitState, has_at, view_in, Scope, Item, Registration, Reservation, Attentions, IsSo, IsPossible, Possibilities, one_registration, one_attentions, IsAt, IsImage, Changes, Place, Transition, Allows, few_keys, Onlooker, IsWatched, ATTENTION_SETS, MOST_REGISTRATIONS}
+use Rattle.pr_interference.proofs.Common.{◌≡◌, ℕ, ◌<◌, ◌≤◌, true, false, ◌≢◌, ◌⊎◌, List, ◌==◌, sym, ◌∙◌, subst, inl, inr, arith, eqb_tells, has_wide, has, BitSet, MOST_NEXUSES, UnitState, has_at, view_in, Scope, Item, Registration, Reservation, Attentions, IsSo, IsPossible, Possibilities, one_registration, one_attentions, IsAt, IsImage, Changes, Place, Transition, Allows, few_keys, Onlooker, IsWatched, ATTENTION_SETS, MOST_REGISTRATIONS, eq-eqb, eqb-true, refl}
 use Rattle.std.proofs.Common.{unwrap_or}
 use Rattle.pr_regions.specs.declared.region.Region.{Region}
 use Rattle.pr_regions.specs.Regions.{told_number}
@@ -26,12 +26,6 @@ pub record IsMadeOf (view : Possibilities) (own : ℕ) (place : Place) (change :
   pub are_own : (r : ℕ) → has_at words own r ≡ has owners r
   pub told : AreTold change owners view.pending p.pending
 
-same_number : (a b : ℕ) → (a == b) ≡ true → a ≡ b
-same_number a b is = grind (arith, nat_tests)
-
-itself : (a : ℕ) → (a == a) ≡ true
-itself a = grind (arith, nat_tests)
-
 pub is_after : (s : Scope) (o : Onlooker) (place : Place) (senders : BitSet) (region : Region) (change : Transition) (words : List BitSet) (p : Possibilities) (q : ℕ) → IsWatched s o place
     → s.hosts ≤ MOST_NEXUSES → IsGathered (view_in s o.view) place senders region words → has o.view.pending q ≡ true → IsMadeOf o.view s.own place change words p
     → IsAfter s o.view place senders region change p
@@ -51,7 +45,7 @@ is_after s o place senders region change words p q is most gathered some made = 
         let below : g < MOST_NEXUSES = (let there = so.0 in omega arith) in
         (so.0, subst (λ m. has_at p.registrations g m ≡ true) same ((made.registrations g below).all seen.0 (gathered.all u g seen.0 at seen.1.1)))
     all u w at changes (Reservation x) so =
-        made.reservation x ∙ subst (λ y. (x == y) ≡ true) (so ∙ sym changes.reservation) (itself x)
+        made.reservation x ∙ subst (λ y. (x == y) ≡ true) (so ∙ sym changes.reservation) (eq-eqb x x refl)
     all u w at changes (Attentions n) so =
         let owner = at.shown.registrations s.own is.known.fits.scope.own in
         let seen = at.shown.pending in
@@ -88,7 +82,7 @@ is_after s o place senders region change words p q is most gathered some made = 
         record {
           from = met.unit;
           at = met.at;
-          is = λ w changes. subst (λ y. IsSo s w (Reservation y)) (sym (same_number x change.reservation (sym (made.reservation x) ∙ got))) changes.reservation;
+          is = λ w changes. subst (λ y. IsSo s w (Reservation y)) (sym (eqb-true x change.reservation (sym (made.reservation x) ∙ got))) changes.reservation;
         }
     only (Attentions n) got =
         let found = made.told.only n got in

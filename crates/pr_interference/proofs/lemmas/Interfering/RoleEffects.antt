@@ -1,5 +1,6 @@
 -- What the clauses of a role lead to, reservation after reservation, and that with looks they are all that is done.
 use Rattle.pr_interference.proofs.Common.{◌≡◌, ℕ, ◌+◌, ◌<◌, true, false, ◌≢◌, ◌⊎◌, List, length, ◌==◌, All, sym, refl, ◌∙◌, subst, inl, inr, arith, false≢true, and_parts, eqb_tells, has_wide, UnitState, effect, is_action, names, holds, Clause, view_in, Scope, number_of, count_of_reservations, Item, Registration, Reservation, Attentions, IsPossible, Shows, Possibilities, one_reservation, Allows, Adds, adds_nothing, adds_both, IsLike, so_like, IsDone, IsLeft, IsInterference, Onlooker, IsClause, PlaceLeads, FirstLeads, IsWidened, IsOnlooking, Among, ClauseLeaves}
+use Rattle.std.proofs.Common.{not-suc-le-zero}
 use Rattle.pr_unit.specs.UnitStates.{IsWellFormed}
 use Rattle.pr_unit.proofs.lemmas.Steps.WellFormedSteps.{well_formed-step, hosts-step}
 use Rattle.pr_interference.specs.inside.Reaching.{HasShown}
@@ -12,10 +13,7 @@ use Rattle.pr_interference.proofs.lemmas.Clauses.Commands.{IsMeant, meant}
 -- ---- one reservation after another
 
 pub first_none : (s : Scope) (p view : Possibilities) (clause : Clause) (sender : ℕ) (leaves : Item → Type 0) → Adds s p p (FirstLeads 0 (view_in s view) clause sender) leaves
-first_none s p view clause sender leaves = adds_nothing s p (FirstLeads 0 (view_in s view) clause sender) leaves (λ u w led. nothing led.below)
-  where
-    nothing : {n : ℕ} → n < 0 → ⊥
-    nothing small = omega arith
+first_none s p view clause sender leaves = adds_nothing s p (FirstLeads 0 (view_in s view) clause sender) leaves (λ u w led. not-suc-le-zero led.below)
 
 pub first_more : (s : Scope) (view a b c : Possibilities) (clause : Clause) (sender n : ℕ) (leaves : Item → Type 0) → Adds s a b (FirstLeads n (view_in s view) clause sender) leaves
     → Adds s b c (PlaceLeads (view_in s view) clause sender n) leaves → Adds s a c (FirstLeads (n + 1) (view_in s view) clause sender) leaves

@@ -1,7 +1,7 @@
 -- Images of sets of numbers, one number after another.
-use Rattle.pr_interference.proofs.Common.{◌≡◌, ℕ, ◌+◌, ◌<◌, Bool, true, false, ◌||◌, ◌≢◌, ◌⊎◌, ◌==◌, bit_or, sym, refl, ap, ◌∙◌, subst, inl, inr, arith, lt-ltb, false≢true, and_parts, and_from, eqb_tells, nat_tests, has, BitSet, IsImage, mark, Transition, first, AreMarked, ATTENTION_SETS, MOST_REGISTRATIONS}
+use Rattle.pr_interference.proofs.Common.{◌≡◌, ℕ, ◌+◌, ◌<◌, Bool, true, false, ◌||◌, ◌≢◌, ◌⊎◌, ◌==◌, bit_or, sym, ap, ◌∙◌, subst, inl, inr, arith, lt-ltb, false≢true, and_parts, and_from, eqb_tells, has, BitSet, IsImage, mark, Transition, first, AreMarked, ATTENTION_SETS, MOST_REGISTRATIONS, eq-eqb, eqb-true, or_left, refl}
 use Rattle.std.proofs.Common.{nat_lt}
-use Rattle.std.proofs.lemmas.Bool.{ltb-true}
+use Rattle.std.proofs.lemmas.Bool.{ltb-true, or_cases, or_right}
 use Rattle.pr_regions.specs.Regions.{flag}
 use Rattle.pr_interference.specs.inside.Marks.{AreTold}
 
@@ -27,38 +27,21 @@ first_last i w n is = at (eqb_tells n i)
     at (inl same) = inl same.1
     at (inr other) = inr (first_from i w n (let small = parts.0 in let differs = other.1 in omega arith) parts.1)
 
-either : (a b : Bool) → (a || b) ≡ true → (a ≡ true) ⊎ (b ≡ true)
-either true b is = inl refl
-either false b is = inr is
-
-or_left : (a b : Bool) → a ≡ true → (a || b) ≡ true
-or_left a b is = rw is refl
-
-or_right : (a b : Bool) → b ≡ true → (a || b) ≡ true
-or_right true b is = refl
-or_right false b is = is
-
-same_number : (a b : ℕ) → (a == b) ≡ true → a ≡ b
-same_number a b is = grind (arith, nat_tests)
-
-itself : (a : ℕ) → (a == a) ≡ true
-itself a = grind (arith, nat_tests)
-
 -- ---- images
 
 pub image_more : (i m : ℕ) (w to more : BitSet) (f : ℕ → ℕ) → has w i ≡ true → m ≡ f i → ((n : ℕ) → has more n ≡ (n == m || has to n)) → IsImage (first i w) f (has to)
     → IsImage (first (i + 1) w) f (has more)
 image_more i m w to more f there is with_m image = record {
   all = λ n below. all n (first_last i w n below);
-  only = λ n got. only n (either (n == m) (has to n) (sym (with_m n) ∙ got));
+  only = λ n got. only n (or_cases (n == m) (has to n) (sym (with_m n) ∙ got));
 }
   where
     all : (n : ℕ) → (n ≡ i) ⊎ (first i w n ≡ true) → has more (f n) ≡ true
-    all n (inl same) = with_m (f n) ∙ or_left (f n == m) (has to (f n)) (subst (λ x. (f n == x) ≡ true) (sym (is ∙ ap f (sym same))) (itself (f n)))
+    all n (inl same) = with_m (f n) ∙ or_left (f n == m) (has to (f n)) (subst (λ x. (f n == x) ≡ true) (sym (is ∙ ap f (sym same))) (eq-eqb (f n) (f n) refl))
     all n (inr below) = with_m (f n) ∙ or_right (f n == m) (has to (f n)) (image.all n below)
 
     only : (n : ℕ) → ((n == m) ≡ true) ⊎ (has to n ≡ true) → (k : ℕ) × (first (i + 1) w k ≡ true) × (n ≡ f k)
-    only n (inl same) = (i, first_from (i + 1) w i (omega arith) there, same_number n m same ∙ is)
+    only n (inl same) = (i, first_from (i + 1) w i (omega arith) there, eqb-true n m same ∙ is)
     only n (inr before) = let found = image.only n before in (found.0, first_wider i w found.0 found.1, found.2)
 
 pub image_skips : (i : ℕ) (w to : BitSet) (f : ℕ → ℕ) → has w i ≡ false → IsImage (first i w) f (has to) → IsImage (first (i + 1) w) f (has to)
@@ -77,7 +60,7 @@ pub marked_more : (i : ℕ) (marks pending told new more : BitSet) → has marks
     → IsImage (first ATTENTION_SETS pending) (λ q. bit_or q i) (has new) → AreMarked i marks pending told → AreMarked (i + 1) marks pending more
 marked_more i marks pending told new more there joined image before = record {
   all = λ m q is pends. joined (bit_or q m) ∙ all m q pends (first_last i marks m is);
-  only = λ n is. only n (either (has told n) (has new n) (sym (joined n) ∙ is));
+  only = λ n is. only n (or_cases (has told n) (has new n) (sym (joined n) ∙ is));
 }
   where
     all : (m q : ℕ) → first ATTENTION_SETS pending q ≡ true → (m ≡ i) ⊎ (first i marks m ≡ true) → (has told (bit_or q m) || has new (bit_or q m)) ≡ true

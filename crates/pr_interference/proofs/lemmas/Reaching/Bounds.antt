@@ -1,7 +1,7 @@
 -- The reach of each clause, and what is possible within it.
-use Rattle.pr_interference.proofs.Common.{◌≡◌, ℕ, zero, suc, ◌<◌, ◌≤◌, Bool, true, false, not, ◌&&◌, ◌||◌, ◌≢◌, ◌⊎◌, List, length, if◌then◌else◌, ◌==◌, slice_index_or, bit_or, Some, None, Option, sym, refl, ap, ◌∙◌, subst, inl, inr, arith, false≢true, and_parts, eqb_tells, nat_tests, has_wide, has, BitSet, MOST_NEXUSES, Kind, is_kind, is_told_of_loss, is_held_by_all, key_of, is_registered, kind_of, new_reservation, IsKey, Held, One, UnitState, is_action, names, holds, Action, Clause, has_at, view_in, Scope, number_of, Item, Registration, Reservation, Attentions, IsSo, IsPossible, Shows, Possibilities, one_registration, one_attentions, number_in, purpose_of_preempt, Place, Purpose, Register, Unregister, Reserve, Release, Clear, PreemptAll, Preempt, Allows, Adds, same_reservation, few_keys, Onlooker, Reach, purpose_for, PlaceLeads, FirstLeads, IsWatched, IsOnlooking, ClauseLeaves, ATTENTION_SETS, MOST_KEYS}
+use Rattle.pr_interference.proofs.Common.{◌≡◌, ℕ, zero, suc, ◌<◌, ◌≤◌, Bool, true, false, not, ◌&&◌, ◌||◌, ◌≢◌, ◌⊎◌, List, length, if◌then◌else◌, ◌==◌, slice_index_or, bit_or, Some, None, Option, sym, refl, ap, ◌∙◌, subst, inl, inr, arith, false≢true, and_parts, eqb_tells, nat_tests, has_wide, has, BitSet, MOST_NEXUSES, Kind, is_kind, is_told_of_loss, is_held_by_all, key_of, is_registered, kind_of, new_reservation, IsKey, Held, One, UnitState, is_action, names, holds, Action, Clause, has_at, view_in, Scope, number_of, Item, Registration, Reservation, Attentions, IsSo, IsPossible, Shows, Possibilities, one_registration, one_attentions, number_in, purpose_of_preempt, Place, Purpose, Register, Unregister, Reserve, Release, Clear, PreemptAll, Preempt, Allows, Adds, same_reservation, few_keys, Onlooker, Reach, purpose_for, PlaceLeads, FirstLeads, IsWatched, IsOnlooking, ClauseLeaves, ATTENTION_SETS, MOST_KEYS, or_left}
 use Rattle.std.specs.List.{All as Each}
-use Rattle.std.proofs.lemmas.Bool.{cases_lt, or_left, or_right}
+use Rattle.std.proofs.lemmas.Bool.{cases_lt, or_right}
 use Rattle.std.proofs.lemmas.Option.{same_Some, slice_get_within, get_or_from_slice_get}
 use Rattle.std.specs.Prelude.{get_or}
 use Rattle.std.proofs.Common.{option_map}
@@ -14,8 +14,9 @@ use Rattle.pr_roles.specs.declared.role.Condition.{Condition}
 use Rattle.pr_roles.specs.declared.role.Condition.TheVariants as condition
 use Rattle.pr_roles.specs.Keys.{key_at}
 use Rattle.pr_views.specs.Views.{IsSeen}
+use Rattle.pr_views.proofs.lemmas.Possibilities.Numbers.{once_of, same_registration}
 use Rattle.pr_views.proofs.lemmas.Rooms.Places.{holds_at-get_or, holds_at_past}
-use Rattle.pr_regions.proofs.lemmas.Showing.Numbers.{AreDistinct, are_distinct_keys, same_number_at}
+use Rattle.pr_regions.proofs.lemmas.Showing.Numbers.{AreDistinct}
 use Rattle.pr_regions.proofs.lemmas.Purposes.Conduct.{key_named, after_for, change_for, fault_for, IsNamed, IsOwned, asked}
 use Rattle.pr_regions.proofs.lemmas.Regions.ChangedStates.{then_in}
 use Rattle.pr_regions.specs.Conditions.{holds_as}
@@ -144,7 +145,7 @@ module _ (s : Scope) (o : Onlooker) (place : Place) (clause : Clause) (reach : R
       held = stands u w led
 
       once : AreDistinct s.keys
-      once = are_distinct_keys s.keys is.known.fits.scope.keys
+      once = once_of s.keys is.known.fits.scope.keys
 
       asks : purpose_of_preempt s.keys key t ≡ Preempt j t
       asks = let other : (key == 0) ≡ false = grind (arith, nat_tests) in ap (λ b. if b then PreemptAll t else Preempt j t) other
@@ -172,7 +173,7 @@ module _ (s : Scope) (o : Onlooker) (place : Place) (clause : Clause) (reach : R
       holder : j ≤ length s.keys → key_at s.keys j ≡ Some k → (g : ℕ) → key_of u.registry g ≡ Some k → has_at o.view.registrations g j ≡ true
       holder small named g has =
           let it = shown.registrations g (subst (λ n. g < n) shown.hosts (shown.formed.registry.keys g k has).0) in
-          let same : it.0 ≡ j = same_number_at s.keys it.0 j once it.1.1.1 small (sym it.1.1.2 ∙ has ∙ sym named) in
+          let same : it.0 ≡ j = same_registration s.keys it.0 j once it.1.1.1 small (sym it.1.1.2 ∙ has ∙ sym named) in
           subst (λ r. has_at o.view.registrations g r ≡ true) same it.1.0.1
 
       here : has_wide reach.reservations (number_of place.hosts (Some (new_reservation t place.sender))) ≡ true → has_wide reach.reservations (number_of s.hosts (Some (new_reservation t place.sender))) ≡ true

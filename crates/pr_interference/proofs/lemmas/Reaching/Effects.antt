@@ -1,10 +1,10 @@
 -- Whatever becomes another by a service action is in its reach.
-use Rattle.pr_interference.proofs.Common.{◌≡◌, ℕ, zero, suc, ◌≤◌, Bool, true, false, not, ◌&&◌, ◌||◌, ◌≢◌, ◌⊎◌, length, if◌then◌else◌, ◌==◌, bit_or, Some, None, Option, sym, refl, ap, ◌∙◌, subst, inl, inr, arith, false≢true, and_parts, and_from, eqb_tells, nat_tests, has_wide, has, Kind, is_kind, is_told_of_loss, is_held_by_all, State, key_of, is_registered, new_reservation, Held, One, UnitState, Scope, number_of, Registration, IsSo, Unregister, is_pending_after, contains-told, Reach, MOST_KEYS}
+use Rattle.pr_interference.proofs.Common.{◌≡◌, ℕ, zero, suc, ◌≤◌, Bool, true, false, not, ◌&&◌, ◌||◌, ◌≢◌, ◌⊎◌, length, if◌then◌else◌, ◌==◌, bit_or, Some, None, Option, sym, refl, ap, ◌∙◌, subst, inl, inr, arith, false≢true, and_parts, and_from, eqb_tells, nat_tests, has_wide, has, Kind, is_kind, is_told_of_loss, is_held_by_all, State, key_of, is_registered, new_reservation, Held, One, UnitState, Scope, number_of, Registration, IsSo, Unregister, is_pending_after, contains-told, Reach, MOST_KEYS, or_left}
 use Rattle.std.proofs.Common.{is_some, unwrap_or}
 use Rattle.std.specs.Int.Bits.{or_zero_r}
 use Rattle.std.specs.FinSet as set
 use Rattle.std.specs.FinMap as map
-use Rattle.std.proofs.lemmas.Bool.{or_left, not-true}
+use Rattle.std.proofs.lemmas.Bool.{not-true}
 use Rattle.pr_registry.specs.declared.held.Held.TheVariants.{All}
 use Rattle.pr_registry.specs.declared.change.Change.{Change as Told}
 use Rattle.pr_registry.specs.Hosts.{Keys, just, without, hosts_with, is_key, is_empty}
@@ -13,9 +13,10 @@ use Rattle.pr_registry.specs.Changes.{Case, ReplacesAll, ReplacesHolder, Removes
 use Rattle.pr_registry.specs.Effects.{with_registration as register, held_by_rest, held_or, with_reservation, after_release, without_registration, after_clear, after_preempt}
 use Rattle.pr_registry.proofs.lemmas.Sets.{get-without, contains-hosts_with, key_is, not_empty_from_some}
 use Rattle.pr_roles.specs.Keys.{key_at}
+use Rattle.pr_views.proofs.lemmas.Possibilities.Numbers.{same_registration}
 use Rattle.pr_regions.specs.Transitions.{never}
 use Rattle.pr_regions.specs.inside.Parts.{is_of_registrant, told_if, told_but, lost_if}
-use Rattle.pr_regions.proofs.lemmas.Showing.Numbers.{AreDistinct, same_number_at}
+use Rattle.pr_regions.proofs.lemmas.Showing.Numbers.{AreDistinct}
 use Rattle.pr_regions.proofs.lemmas.Purposes.Conduct.{after_for, change_for}
 use Rattle.pr_regions.proofs.lemmas.Regions.ChangedStates.{Is, then_in}
 use Rattle.pr_regions.proofs.lemmas.Regions.ToldAttentions.{contains-codes_told, told-lt, flags}
@@ -377,7 +378,7 @@ module _ (s : Scope) (from : ℕ) (reach : Reach) (u : UnitState) where
         told_gone n false is = tt
 
         one : (n : ℕ) → Is s.keys u.registry from n → (n == j) ≡ own
-        one n is = ap (λ m. m == j) (same_number_at s.keys n r once is.known so.1 (sym is.key ∙ so.2))
+        one n is = ap (λ m. m == j) (same_registration s.keys n r once is.known so.1 (sym is.key ∙ so.2))
 
         mine_or_not : (b : Bool) → own ≡ b → (own ≡ true) ⊎ (own ≡ false)
         mine_or_not true is = inl is

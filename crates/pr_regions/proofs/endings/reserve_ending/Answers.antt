@@ -1,4 +1,5 @@
-use Rattle.pr_regions.proofs.Common.{◌≡◌, Bool, true, false, ◌&&◌, None, sym, refl, ap, subst, ◌∙◌, is_kind, kind_of, number_of, holds, never, Does}
+use Rattle.pr_regions.proofs.Common.{true, false, ◌&&◌, None, sym, ap, subst, ◌∙◌, is_kind, kind_of, number_of, holds, never, Does}
+use Rattle.std.proofs.lemmas.Bool.{and_right}
 use Rattle.pr_regions.proofs.lemmas.Parts.Services.{reserve_new, reserve_same, reserve_conflict}
 use Rattle.pr_regions.proofs.endings.reserve_ending.Goals as goal
 use Rattle.pr_regions.proofs.endings.reserve_ending.Goals.{else-holds-via-then-holds+else-is_kind, else-holds-via-else-holds}
@@ -19,10 +20,6 @@ returns-else-holds c =
     let same = is_kind (kind_of c.in-Some.held) c.args.kind in
     reserve_conflict c.args.sender.hosts c.args.kind c.args.sender.held c.in-Some.held c.args.sender.number c.args.sender.standing c.in-Some.is
     (elim c.else-holds.branch [
-      | else-holds-via-then-holds+else-is_kind w ↦ and_false holder same (ap (λ t. is_kind t c.args.kind) (sym w.kind_of.ensures) ∙ sym w.is_kind.ensures ∙ w.if-is_kind.false)
+      | else-holds-via-then-holds+else-is_kind w ↦ and_right holder same (ap (λ t. is_kind t c.args.kind) (sym w.kind_of.ensures) ∙ sym w.is_kind.ensures ∙ w.if-is_kind.false)
       | else-holds-via-else-holds w ↦ ap (λ b. b && same) (sym c.holds.ensures ∙ w.if-holds.false)
     ])
-  where
-    and_false : (a b : Bool) → b ≡ false → (a && b) ≡ false
-    and_false true b is = is
-    and_false false b is = refl

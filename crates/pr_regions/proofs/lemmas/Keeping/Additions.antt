@@ -1,5 +1,6 @@
 -- What is added to possibilities, step by step.
-use Rattle.pr_regions.proofs.Common.{◌≡◌, ℕ, Bool, true, false, ◌||◌, refl, sym, ◌∙◌, inl, inr, ◌⊎◌, UnitState, has, Scope, Registration}
+use Rattle.pr_regions.proofs.Common.{◌≡◌, ℕ, true, ◌||◌, sym, ◌∙◌, inl, inr, ◌⊎◌, UnitState, has, Scope, Registration}
+use Rattle.std.proofs.lemmas.Bool.{or_left, or_right, or_cases}
 use Rattle.pr_sets.specs.Wides.{has_wide}
 use Rattle.pr_views.specs.declared.possibilities.Possibilities.{Possibilities}
 use Rattle.pr_views.specs.Possibilities.{Item, Reservation, Attentions}
@@ -46,17 +47,6 @@ pub record IsJoined (old other new : Possibilities) : Type 0 where
   pub reservations : (x : ℕ) → has_wide new.reservations x ≡ (has_wide old.reservations x || has_wide other.reservations x)
   pub pending : (q : ℕ) → has new.pending q ≡ (has old.pending q || has other.pending q)
 
-or_left : (a b : Bool) → a ≡ true → (a || b) ≡ true
-or_left a b is = rw is refl
-
-or_right : (a b : Bool) → b ≡ true → (a || b) ≡ true
-or_right true b is = refl
-or_right false b is = is
-
-either : (a b : Bool) → (a || b) ≡ true → (a ≡ true) ⊎ (b ≡ true)
-either true b is = inl refl
-either false b is = inr is
-
 pub joined_old : (s : Scope) (old other new : Possibilities) (i : Item) → IsJoined old other new → IsPossible (view_in s old) i → IsPossible (view_in s new) i
 joined_old s old other new (Registration g r) joined is = (is.0, joined.registrations g r ∙ or_left _ (has_at other.registrations g r) is.1)
 joined_old s old other new (Reservation x) joined is = joined.reservations x ∙ or_left _ (has_wide other.reservations x) is
@@ -69,10 +59,10 @@ joined_other s old other new (Attentions q) joined is = joined.pending q ∙ or_
 
 pub joined_either : (s : Scope) (old other new : Possibilities) (i : Item) → IsJoined old other new → IsPossible (view_in s new) i → IsPossible (view_in s old) i ⊎ IsPossible (view_in s other) i
 joined_either s old other new (Registration g r) joined is =
-    at (either (has_at old.registrations g r) (has_at other.registrations g r) (sym (joined.registrations g r) ∙ is.1))
+    at (or_cases (has_at old.registrations g r) (has_at other.registrations g r) (sym (joined.registrations g r) ∙ is.1))
   where
     at : (has_at old.registrations g r ≡ true) ⊎ (has_at other.registrations g r ≡ true) → IsPossible (view_in s old) (Registration g r) ⊎ IsPossible (view_in s other) (Registration g r)
     at (inl had) = inl (is.0, had)
     at (inr had) = inr (is.0, had)
-joined_either s old other new (Reservation x) joined is = either (has_wide old.reservations x) (has_wide other.reservations x) (sym (joined.reservations x) ∙ is)
-joined_either s old other new (Attentions q) joined is = either (has old.pending q) (has other.pending q) (sym (joined.pending q) ∙ is)
+joined_either s old other new (Reservation x) joined is = or_cases (has_wide old.reservations x) (has_wide other.reservations x) (sym (joined.reservations x) ∙ is)
+joined_either s old other new (Attentions q) joined is = or_cases (has old.pending q) (has other.pending q) (sym (joined.pending q) ∙ is)

@@ -1,5 +1,6 @@
 -- How a command ends in a state that meets what is known, by its purpose.
 use Rattle.pr_regions.proofs.Common.{◌≡◌, ℕ, zero, suc, ◌<◌, ◌≤◌, Bool, true, false, not, if◌then◌else◌, Some, None, Option, unwrap_or, sym, refl, ap, ◌∙◌, subst, arith, nat_tests, Command, Sense, no_change, State, is_registered, Held, One, All, UnitState, Scope, number_of, HasNumber, Meets, HasRoom, Ends, Purpose, Standing, Transition, Conflict, Fault, Good, Does, never, is_unregistered, holds, is_of_registrant, MOST_KEYS}
+use Rattle.std.proofs.Math.Bool.{not-not}
 use Rattle.pr_registry.specs.declared.change.Change.{Change as Told}
 use Rattle.pr_registry.specs.Registrations.{is_holder}
 use Rattle.pr_registry.specs.Effects.{after, change}
@@ -8,7 +9,7 @@ use Rattle.pr_unit.specs.Faults.{command_fault}
 use Rattle.pr_views.specs.Possibilities.{count_of_reservations}
 use Rattle.pr_regions.specs.declared.purpose.Standing.TheVariants.{Named, Other}
 use Rattle.pr_regions.specs.Regions.{names, standing_of}
-use Rattle.pr_regions.proofs.lemmas.Showing.Numbers.{few_keys}
+use Rattle.pr_regions.proofs.lemmas.Portions.GatheredStates.{few_keys}
 use Rattle.pr_regions.proofs.lemmas.Purposes.Conduct.{conflicts_for, fault_for, after_for, change_for, IsAsked, asked}
 use Rattle.pr_regions.proofs.lemmas.Regions.ChangedStates.{Is, Acts, changes}
 use Rattle.pr_regions.proofs.lemmas.Regions.Effects.{Becomes, acts, still, is_registered-number}
@@ -37,16 +38,12 @@ is_unregistered-number p (suc i) = at (names p (suc i)) ∙ sym (not_zero i)
     not_zero : (i : ℕ) → not (is_of_registrant (suc i)) ≡ false
     not_zero i = grind (arith, nat_tests)
 
-twice : (b : Bool) → not (not b) ≡ b
-twice true = refl
-twice false = refl
-
 pub registered_or_not : (s : Scope) (p : Purpose) (held : Option Held) (sender : ℕ) (standing : Standing) (u : UnitState) (c : Command)
     → Meets s p held sender standing u c → is_registered u.registry sender ≡ not (is_unregistered standing)
 registered_or_not s p held sender standing u c m =
     let it = sender_of s p held sender standing u c m in
     is_registered-number s.keys u.registry sender it.number it.is
-    ∙ sym (ap not (sym (ap is_unregistered it.stands) ∙ is_unregistered-number p it.number) ∙ twice (is_of_registrant it.number))
+    ∙ sym (ap not (sym (ap is_unregistered it.stands) ∙ is_unregistered-number p it.number) ∙ not-not (is_of_registrant it.number))
 
 holds_or_not : (u : State) (v : Held) (sender : ℕ) (standing : Standing) → u.held ≡ Some v → is_registered u sender ≡ not (is_unregistered standing)
     → is_holder u sender ≡ holds v sender standing

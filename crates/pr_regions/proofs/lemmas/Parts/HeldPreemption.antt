@@ -1,13 +1,14 @@
 -- The branches of a command that preempts a key while another host holds the reservation alone.
-use Rattle.pr_regions.proofs.Common.{◌≡◌, ℕ, ◌<◌, Bool, true, false, not, ◌≢◌, ◌⊎◌, [], ◌∷◌, is_some, if◌then◌else◌, IsTrue, ◌==◌, Some, None, Option, sym, refl, ap, ◌∙◌, subst, inl, inr, arith, not-true, false≢true, nat_tests, Command, Kind, is_kind, held_by_rest, is_key, Keys, key_of, new_reservation, Held, One, UnitState, HasSomebody, Scope, number_of, Registration, IsSo, HasNumber, Meets, HasRoom, IsInRegion, IsCovered, Preempt, Standing, Branch, Transition, Conflict, Good, Does, never, any, only, is_of_registrant, but, another, told_but, lost_if, is_named, Leaves, EndsIn, Tell}
+use Rattle.pr_regions.proofs.Common.{◌≡◌, ℕ, ◌<◌, Bool, true, false, not, ◌≢◌, ◌⊎◌, [], ◌∷◌, is_some, if◌then◌else◌, IsTrue, ◌==◌, Some, None, Option, sym, refl, ap, ◌∙◌, subst, inl, inr, arith, not-true, false≢true, nat_tests, Command, Kind, is_kind, held_by_rest, is_key, Keys, key_of, new_reservation, Held, One, UnitState, HasSomebody, Scope, number_of, Registration, IsSo, HasNumber, Meets, HasRoom, IsInRegion, IsCovered, Preempt, Standing, Branch, Transition, Conflict, Good, Does, never, any, only, is_of_registrant, but, another, told_but, lost_if, is_named, Leaves, EndsIn, Tell, eq-eqb}
 use Rattle.std.specs.FinMap as map
 use Rattle.pr_registry.specs.Registrations.{HasHolder}
-use Rattle.pr_regions.proofs.lemmas.Showing.Numbers.{same_itself, few_keys, one_registration}
+use Rattle.pr_views.proofs.lemmas.Possibilities.Numbers.{one_registration}
 use Rattle.pr_regions.proofs.lemmas.Purposes.Conduct.{key_named}
 use Rattle.pr_regions.proofs.lemmas.Regions.Effects.{is_registered-number}
 use Rattle.pr_regions.proofs.lemmas.Parts.Branches.{left_to, in_region, from_region, HasNobody, somebody_or_nobody, each_of_two, each_of_three, untested, tested, tell}
 use Rattle.pr_regions.proofs.lemmas.Regions.KeyHolders.{HasKeys, keys_of, has_key, key_is, IsNotHolders, replaced_ends, removed_ends, nobody_ends}
 use Rattle.pr_regions.proofs.lemmas.Parts.Preemption.{both_not, not_either, none_is_not, own_key, does_so}
+use Rattle.pr_regions.proofs.lemmas.Portions.GatheredStates.{few_keys}
 
 -- the reservation of h alone
 abbrev pub held_by : Kind → ℕ → Option Held
@@ -30,7 +31,7 @@ holder_number s j t old h sender standing u c m = at (key_of u.registry h) refl 
 
 -- what is left to the holder, and to the others
 left_to_holder : (holder others : ℕ → Bool) (old : Kind) (h r : ℕ) → left_to holder others (held_by old h) h r ≡ holder r
-left_to_holder holder others old h r = ap (λ b. if b then holder r else others r) (same_itself h)
+left_to_holder holder others old h r = ap (λ b. if b then holder r else others r) (eq-eqb h h refl)
 
 left_to_each : (holder others : ℕ → Bool) (old : Kind) (h g r : ℕ) → ((h == g) ≡ true → holder r ≡ true) → ((h == g) ≡ false → others r ≡ true) → left_to holder others (held_by old h) g r ≡ true
 left_to_each holder others old h g r one other = at (h == g) refl

@@ -1,11 +1,12 @@
 -- The branches of a command that preempts a key.
-use Rattle.pr_regions.proofs.Common.{◌≡◌, ℕ, ◌≤◌, Bool, true, false, not, ◌&&◌, ◌||◌, ◌≢◌, ◌⊎◌, [], ◌∷◌, is_some, if◌then◌else◌, ◌==◌, Some, None, Option, sym, refl, ap, ◌∙◌, subst, inl, inr, arith, not-true, false≢true, nat_tests, eqb_tells, Command, Kind, is_held_by_all, is_kind, held_by_rest, is_key, Keys, without, hosts_with, is_empty, is_registered, key_of, new_reservation, Held, One, All, UnitState, HasSomebody, Scope, number_of, key_at, Registration, IsSo, HasNumber, Meets, HasRoom, IsCovered, Preempt, Standing, Branch, Transition, Conflict, Good, Does, AlwaysEnds, never, any, only, but, another, told_but, lost_if, is_named, Leaves, EndsIn, Tell}
+use Rattle.pr_regions.proofs.Common.{◌≡◌, ℕ, ◌≤◌, Bool, true, false, not, ◌&&◌, ◌||◌, ◌≢◌, ◌⊎◌, [], ◌∷◌, is_some, if◌then◌else◌, ◌==◌, Some, None, Option, sym, refl, ap, ◌∙◌, subst, inl, inr, arith, not-true, false≢true, nat_tests, eqb_tells, Command, Kind, is_held_by_all, is_kind, held_by_rest, is_key, Keys, without, hosts_with, is_empty, is_registered, key_of, new_reservation, Held, One, All, UnitState, HasSomebody, Scope, number_of, key_at, Registration, IsSo, HasNumber, Meets, HasRoom, IsCovered, Preempt, Standing, Branch, Transition, Conflict, Good, Does, AlwaysEnds, never, any, only, but, another, told_but, lost_if, is_named, Leaves, EndsIn, Tell, ne_eqb}
 use Rattle.std.specs.FinMap as map
 use Rattle.pr_regions.specs.inside.Parts.{free_or, IsNotAnothers}
-use Rattle.pr_regions.proofs.lemmas.Showing.Numbers.{few_keys, is_some-key_at}
+use Rattle.pr_regions.proofs.lemmas.Showing.Numbers.{is_some-key_at}
 use Rattle.pr_regions.proofs.lemmas.Purposes.Conduct.{key_named}
 use Rattle.pr_regions.proofs.lemmas.Parts.Endings.{sender_of}
 use Rattle.pr_regions.proofs.lemmas.Parts.Branches.{left_to, everyone, in_region, from_region, HasNobody, somebody_or_nobody, each_of_two, untested, tested, tell}
+use Rattle.pr_regions.proofs.lemmas.Portions.GatheredStates.{few_keys}
 use Rattle.pr_regions.proofs.lemmas.Regions.KeyHolders.{HasKeys, keys_of, has_key, key_is, number_or_none, none_left, number_left, sender_left, rest_stays, IsNotHolders, replaced_ends, removed_ends, nobody_ends}
 
 -- ---- tests
@@ -34,13 +35,10 @@ not_either a b one other = λ i. not (one i) && not (other i)
 
 -- ---- holders
 
-other_place : (h g : ℕ) → g ≢ h → (h == g) ≡ false
-other_place h g other = grind (arith, nat_tests)
-
 -- to a single holder but the sender nothing is left apart
 not_holder : (holder others : ℕ → Bool) (held : Option Held) (sender g r : ℕ) → IsNotAnothers held sender → g ≢ sender → left_to holder others held g r ≡ others r
 not_holder holder others (Some (One t h)) sender g r own other =
-    ap (λ b. if b then holder r else others r) (other_place h g (λ same. other (same ∙ own)))
+    ap (λ b. if b then holder r else others r) (ne_eqb h g (λ same. other (sym same ∙ own)))
 not_holder holder others _ sender g r own other = refl
 
 all_own : (held : Option Held) (sender : ℕ) → is_held_by_all held ≡ true → IsNotAnothers held sender

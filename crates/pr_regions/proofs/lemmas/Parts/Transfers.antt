@@ -1,5 +1,6 @@
 -- How commands that read and write blocks end.
 use Rattle.pr_regions.proofs.Common.{◌≡◌, ℕ, Bool, true, false, not, List, if◌then◌else◌, Some, None, Option, sym, refl, ap, ◌∙◌, Command, Kind, Sense, no_change, State, is_registered, kind_of, Held, illegal, UnitState, Scope, number_of, HasNumber, Meets, HasRoom, Purpose, Read, Write, Standing, Transition, Conflict, Fault, Good, Does, AlwaysEnds, never, is_unregistered, holds}
+use Rattle.std.proofs.Math.Bool.{not-not}
 use Rattle.pr_cdb.specs.declared.command.Kind.TheVariants.{WriteExclusive, ExclusiveAccess, ExclusiveAccessRegistrantsOnly, ExclusiveAccessAllRegistrants}
 use Rattle.pr_cdb.specs.declared.codes.TheConstants.{LOGICAL_BLOCK_ADDRESS_OUT_OF_RANGE}
 use Rattle.pr_registry.specs.Registrations.{is_holder}
@@ -26,11 +27,7 @@ shut_out-writing u h standing v ExclusiveAccess holder out = ap not holder
 shut_out-writing u h standing v _ holder out = out
 
 out : (s : Scope) (p : Purpose) (held : Option Held) (sender : ℕ) (standing : Standing) (u : UnitState) (c : Command) → Meets s p held sender standing u c → IsOut u.registry sender standing
-out s p held sender standing u c m = ap not (registered_or_not s p held sender standing u c m) ∙ twice (is_unregistered standing)
-  where
-    twice : (b : Bool) → not (not b) ≡ b
-    twice true = refl
-    twice false = refl
+out s p held sender standing u c m = ap not (registered_or_not s p held sender standing u c m) ∙ not-not (is_unregistered standing)
 
 -- the table of reads, for what is known
 pub reads_conflict : (s : Scope) (p : Purpose) (held : Option Held) (sender : ℕ) (standing : Standing) (u : UnitState) (c : Command) → Meets s p held sender standing u c

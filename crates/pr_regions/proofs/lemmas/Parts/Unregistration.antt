@@ -1,15 +1,17 @@
 -- How a command ends by which its sender is registered no more.
-use Rattle.pr_regions.proofs.Common.{◌≡◌, ℕ, zero, suc, ◌<◌, Bool, true, false, not, ◌&&◌, ◌≢◌, ◌⊎◌, [], ◌∷◌, is_some, if◌then◌else◌, ◌==◌, Some, None, Option, sym, refl, ap, ◌∙◌, subst, inl, inr, arith, false≢true, eqb_tells, Command, no_change, is_held_by_all, change_on_unregister, is_told_of_loss, held_by_rest, without, is_empty, State, is_registered, key_of, Held, One, All, get-without, UnitState, HasSomebody, Scope, number_of, Registration, IsSo, Meets, HasRoom, IsCovered, Ends, Purpose, Unregister, Standing, Branch, Transition, Good, Does, AlwaysEnds, never, is_unregistered, any, only, is_of_registrant, told_if, Leaves, EndsIn, Tell}
+use Rattle.pr_regions.proofs.Common.{◌≡◌, ℕ, zero, suc, ◌<◌, Bool, true, false, not, ◌&&◌, ◌≢◌, ◌⊎◌, [], ◌∷◌, is_some, if◌then◌else◌, ◌==◌, Some, None, Option, sym, refl, ap, ◌∙◌, subst, inl, inr, arith, false≢true, eqb_tells, Command, no_change, is_held_by_all, change_on_unregister, is_told_of_loss, held_by_rest, without, is_empty, State, is_registered, key_of, Held, One, All, get-without, UnitState, HasSomebody, Scope, number_of, Registration, IsSo, Meets, HasRoom, IsCovered, Ends, Purpose, Unregister, Standing, Branch, Transition, Good, Does, AlwaysEnds, never, is_unregistered, any, only, is_of_registrant, told_if, Leaves, EndsIn, Tell, ne_eqb}
 use Rattle.std.specs.FinMap as map
+use Rattle.std.proofs.lemmas.Bool.{not-false}
 use Rattle.pr_registry.specs.Hosts.{just}
 use Rattle.pr_registry.specs.Registrations.{holds_alone}
 use Rattle.pr_registry.specs.Effects.{without_registration}
 use Rattle.pr_registry.proofs.lemmas.Sets.{contains-just, is_empty_from_none, not_empty_from_some}
-use Rattle.pr_regions.proofs.lemmas.Showing.Numbers.{few_keys, key_there}
+use Rattle.pr_views.proofs.lemmas.Possibilities.Numbers.{key_there}
 use Rattle.pr_regions.proofs.lemmas.Purposes.Conduct.{after_for, change_for}
-use Rattle.pr_regions.proofs.lemmas.Regions.Effects.{Becomes, on_unregister, other_host, is_registered-number}
+use Rattle.pr_regions.proofs.lemmas.Regions.Effects.{Becomes, on_unregister, is_registered-number}
 use Rattle.pr_regions.proofs.lemmas.Parts.Endings.{registered_or_not, good_ends, same_ends}
 use Rattle.pr_regions.proofs.lemmas.Parts.Branches.{left_to, in_region, from_region, HasNobody, somebody_or_nobody, each_of_two, everyone, untested, tested, tell}
+use Rattle.pr_regions.proofs.lemmas.Portions.GatheredStates.{few_keys}
 
 -- ---- who has a key
 
@@ -34,7 +36,7 @@ keyless s p held sender standing u c g m none = at (key_of u.registry g) refl
 -- ---- what is left of the reservation
 
 get-rest_other : (u : State) (h g : ℕ) → g ≢ h → map.get (without u.keys (just h)) g ≡ key_of u g
-get-rest_other u h g other = get-without u.keys (just h) g ∙ ap (λ b. if b then None else map.get u.keys g) (contains-just h g ∙ other_host g h other)
+get-rest_other u h g other = get-without u.keys (just h) g ∙ ap (λ b. if b then None else map.get u.keys g) (contains-just h g ∙ ne_eqb g h other)
 
 some_rest : (s : Scope) (sender : ℕ) (u : UnitState) → HasSomebody s u sender (Some is_of_registrant) → is_empty (without u.registry.keys (just sender)) ≡ false
 some_rest s sender u there =
@@ -162,11 +164,7 @@ tell_unregistered hosts held sender standing b d stays ends all present leaves_b
     not_registered r is = ap not is
 
     free : (r : ℕ) → is_of_registrant r ≡ false → only 0 r ≡ true
-    free r is = twice (only 0 r) is
-      where
-        twice : (x : Bool) → not x ≡ false → x ≡ true
-        twice true is = refl
-        twice false is = sym is
+    free r is = not-false (only 0 r) is
 
     covers : (s : Scope) (u : UnitState) (c : Command) → Meets s Unregister held sender standing u c → HasSomebody s u sender (Some is_of_registrant) ⊎ HasNobody s u sender is_of_registrant → IsCovered s sender (b ∷ d ∷ []) u
     covers s u c m (inl there) = record {

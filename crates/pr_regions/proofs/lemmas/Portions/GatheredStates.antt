@@ -3,6 +3,8 @@ use Rattle.pr_regions.proofs.Common.{◌≡◌, ◌≢◌, ℕ, zero, suc, ◌<�
 use Rattle.std.proofs.Common.{IfNone}
 use Rattle.std.specs.FinMap as map
 use Rattle.std.proofs.lemmas.Bool.{and_parts, and_from, ltb-true, leb-true}
+use Rattle.std.proofs.lemmas.Option.{none-some}
+use Rattle.std.proofs.Math.Bool.{and-false}
 use Rattle.pr_registry.specs.Registrations.{holds_alone, HasHolder, is_all}
 use Rattle.pr_registry.proofs.lemmas.Sets.{is_empty_from_none}
 use Rattle.pr_unit.specs.UnitStates.{IsWellFormed}
@@ -19,10 +21,6 @@ use Rattle.pr_regions.specs.Regions.{IsUntestedOrRegistered, filter_of}
 use Rattle.pr_regions.specs.declared.place.Place.{Place}
 use Rattle.pr_regions.specs.Gathering.{IsPlace, IsUniform, IsProper, IsAt}
 use Rattle.pr_regions.specs.inside.Portions.{passes, IsLeftTo, HasTest}
-
-and_false : (b : Bool) → (b && false) ≡ false
-and_false true = refl
-and_false false = refl
 
 -- the number of its reservation, and that this is one, in the view's scope
 pub number_at : (s : Scope) (view : Possibilities) (place : Place) → IsPlace s view place → place.reservation ≡ number_of s.hosts place.held
@@ -91,7 +89,7 @@ gives s view place senders region p is proper of (Some (One kind h)) held fits =
     let parts = and_parts (not (is_all kind)) (nat_lt h s.hosts) fits in
     let below : h < place.hosts = subst (λ n. h < n) is.hosts (ltb-true h s.hosts parts.1) in
     let alone : holds_alone place.held h ≡ true = subst (λ v. holds_alone v h ≡ true) (sym held) (grind (arith, nat_tests)) in
-    of.left h 0 below ∙ ap (λ b. has_at view.registrations h 0 && b) (holder_passes place senders region h alone) ∙ and_false (has_at view.registrations h 0)
+    of.left h 0 below ∙ ap (λ b. has_at view.registrations h 0 && b) (holder_passes place senders region h alone) ∙ and-false (has_at view.registrations h 0)
 gives s view place senders region p is proper of (Some (All kind)) held fits = at (has senders 0) refl
   where
     by_all : is_held_by_all place.held ≡ true
@@ -99,7 +97,7 @@ gives s view place senders region p is proper of (Some (All kind)) held fits = a
 
     at : (b : Bool) → has senders 0 ≡ b → (has_at p.registrations p.sender 0 ≡ false) ⊎ TestsRegistered p.somebody
     at false none = inl (subst (λ n. has_at p.registrations n 0 ≡ false) (sym of.sender)
-        (of.left place.sender 0 place.there ∙ ap (λ b. has_at view.registrations place.sender 0 && b) (unsent none) ∙ and_false (has_at view.registrations place.sender 0)))
+        (of.left place.sender 0 place.there ∙ ap (λ b. has_at view.registrations place.sender 0 && b) (unsent none) ∙ and-false (has_at view.registrations place.sender 0)))
       where
         unsent : has senders 0 ≡ false → passes place senders region place.sender 0 ≡ false
         unsent none =
@@ -172,9 +170,6 @@ holder_registered s u (Some (One kind h)) held formed g zero so alone =
     absurd (subst (λ o. IsTrue (is_some o) → ⊥) (sym none) false≢true there)
 holder_registered s u (Some (One kind h)) held formed g (suc i) so alone = grind (arith, nat_tests)
 
-none_some : (k : ℕ) → None ≡ Some k → ⊥
-none_some k same = let bad : None ≡ Some k = same in cc
-
 pub few_keys : (keys : List ℕ) → AreDeclared keys → length keys ≤ MOST_KEYS
 few_keys keys declared = leb-true (length keys) MOST_KEYS (and_parts (nat_le (length keys) MOST_KEYS) (are_distinct (λ j k. j == k) keys) declared.once).0
 
@@ -230,7 +225,7 @@ in_from_at s view place senders region p is uniform of u at = record {
             seen = at.shown.registrations found.0 below
 
             numbered : (r : ℕ) → IsSo s u (Registration found.0 r) → HasSomebody s u place.sender (Some (has w))
-            numbered zero so = absurd (none_some found.1 (sym so.2 ∙ found.2))
+            numbered zero so = absurd (none-some found.1 (sym so.2 ∙ found.2))
             numbered (suc i) so = (found.0, suc i, elsewhere, so, keys (suc i) (omega arith) (let few = few_keys s.keys is.fits.scope.keys in let small = so.1 in omega arith))
               where
                 elsewhere : found.0 ≢ place.sender

@@ -1,6 +1,7 @@
 -- Words in an array.
 use Rattle.pr_regions.proofs.Common.{◌≡◌, ◌≢◌, ℕ, ◌+◌, ◌<◌, ◌≤◌, Bool, true, false, ◌==◌, ◌&&◌, not, if◌then◌else◌, List, length, Option, Some, None, refl, sym, ap, ◌∙◌, subst, inl, inr, ◌⊎◌, arith, eqb_tells, Held, One, All, BitSet, has}
 use Rattle.std.proofs.Common.{slice_set}
+use Rattle.std.proofs.Math.Bool.{and-true}
 use Rattle.pr_registry.specs.Registrations.{holds_alone}
 use Rattle.pr_views.specs.Portions.{has_at}
 use Rattle.pr_views.proofs.lemmas.Rooms.Places.{holds_at_written, holds_at_kept}
@@ -8,10 +9,6 @@ use Rattle.pr_regions.specs.declared.region.Region.{Region}
 use Rattle.pr_regions.specs.Regions.{filter_of}
 use Rattle.pr_regions.specs.declared.place.Place.{Place}
 use Rattle.pr_regions.specs.inside.Portions.{passes}
-
-and_true : (b : Bool) → (b && true) ≡ b
-and_true true = refl
-and_true false = refl
 
 -- the words below i are as they should be, and then this one is
 pub one_more : (words : List BitSet) (i : ℕ) (w : BitSet) (is : ℕ → ℕ → Bool) → i < length words → ((g r : ℕ) → g < i → has_at words g r ≡ is g r)
@@ -27,9 +24,9 @@ one_more words i w is there before here g r below = at (eqb_tells g i)
 -- to all but the sender and who holds alone the region leaves the same
 leaves_the_same : (held : Option Held) (is_sender : Bool) (g r : ℕ) (senders : BitSet) (region : Region) → is_sender ≡ false → holds_alone held g ≡ false
     → (has (if is_sender then senders else filter_of region held g) r && not (holds_alone held g && r == 0)) ≡ has region.others r
-leaves_the_same None is_sender g r senders region other alone = rw other (and_true (has region.others r))
-leaves_the_same (Some (One t h)) is_sender g r senders region other alone = rw (other, alone) (and_true (has region.others r))
-leaves_the_same (Some (All t)) is_sender g r senders region other alone = rw other (and_true (has region.others r))
+leaves_the_same None is_sender g r senders region other alone = rw other (and-true (has region.others r))
+leaves_the_same (Some (One t h)) is_sender g r senders region other alone = rw (other, alone) (and-true (has region.others r))
+leaves_the_same (Some (All t)) is_sender g r senders region other alone = rw other (and-true (has region.others r))
 
 pub left_to_each : (place : Place) (senders : BitSet) (region : Region) (view first second third : List BitSet)
     → ((g r : ℕ) → g < place.hosts → has_at first g r ≡ (has_at view g r && has region.others r))

@@ -1,9 +1,10 @@
 -- Which arm takes the data of READ KEYS, one arm after another.
-use Rattle.pr_regions.proofs.Common.{◌≡◌, ℕ, zero, suc, ◌+◌, ◌<◌, ◌≤◌, Bool, true, false, cond, not, ◌&&◌, ◌≢◌, ◌⊎◌, List, [], ◌∷◌, ◌++◌, length, get_or, if◌then◌else◌, nat_lt, ◌==◌, Some, None, Option, sym, refl, ap, ◌∙◌, subst, inl, inr, arith, length-append, position, not-true, nat_tests, eqb_tells, has, BitSet, Command, Held, UnitState, matches, HasSomebody, Scope, IsScope, Registration, IsSo, IsInRegion, any, only, IsKnown, answer, MOST_KEYS}
+use Rattle.pr_regions.proofs.Common.{◌≡◌, ℕ, ◌+◌, ◌<◌, ◌≤◌, Bool, true, false, cond, not, ◌&&◌, ◌≢◌, ◌⊎◌, List, [], ◌∷◌, ◌++◌, length, get_or, if◌then◌else◌, nat_lt, ◌==◌, Some, None, Option, sym, refl, ap, ◌∙◌, subst, inl, inr, arith, position, not-true, has, BitSet, Command, Held, UnitState, matches, HasSomebody, Scope, IsScope, Registration, IsSo, IsInRegion, any, only, IsKnown, answer, MOST_KEYS, get_or_default}
+use Rattle.std.proofs.Common.{below_more}
 use Rattle.std.specs.List.{Contains}
-use Rattle.std.proofs.lemmas.Bool.{and_parts}
+use Rattle.std.proofs.lemmas.Bool.{and_parts, lt-ltb, le-ltb}
 use Rattle.std.proofs.lemmas.List.Sums.{position_or_len_is}
-use Rattle.std.proofs.lemmas.List.Elements.{Contains-push}
+use Rattle.std.proofs.lemmas.List.Elements.{Contains-push, Contains-push_cases, Contains-append_left}
 use Rattle.pr_registry.specs.declared.held.Held.TheVariants.{One, All as Everybody}
 use Rattle.pr_script.specs.declared.script.Test.{Test}
 use Rattle.pr_regions.specs.declared.region.Region.{Region}
@@ -13,56 +14,23 @@ use Rattle.pr_regions.specs.Regions.{filter_of}
 use Rattle.pr_regions.specs.Readings.{first_test, IsRead, AreReadings}
 use Rattle.pr_regions.specs.Transitions.{HasThose}
 use Rattle.pr_regions.specs.inside.Reads.{HasNobody, IsAsked, open_to, AreReadSoFar}
-use Rattle.pr_regions.proofs.lemmas.Showing.Numbers.{few_keys}
 use Rattle.pr_regions.proofs.lemmas.Parts.Branches.{somebody_or_none}
+use Rattle.pr_regions.proofs.lemmas.Portions.GatheredStates.{few_keys}
 
 -- ---- lists
-
--- an element of a list is read alike whatever stands for those that are not there
-pub read_alike : {X : Type 0} (xs : List X) (i : ℕ) (d e : X) → i < length xs → get_or xs i d ≡ get_or xs i e
-read_alike [] i d e small = absurd (omega arith)
-read_alike (x ∷ xs) zero d e small = refl
-read_alike (x ∷ xs) (suc i) d e small = read_alike xs i d e (omega arith)
-
-pub last_or_before : {X : Type 0} (xs : List X) (y b : X) → Contains (xs ++ y ∷ []) b → Contains xs b ⊎ (y ≡ b)
-last_or_before [] y b (zero, small, is) = inr is
-last_or_before [] y b (suc k, small, is) = absurd (omega arith)
-last_or_before (x ∷ xs) y b (zero, small, is) = inl (0, omega arith, is)
-last_or_before (x ∷ xs) y b (suc k, small, is) = later (last_or_before xs y b (k, omega arith, is))
-  where
-    later : Contains xs b ⊎ (y ≡ b) → Contains (x ∷ xs) b ⊎ (y ≡ b)
-    later (inl there) = let small = there.1 in inl (suc there.0, omega arith, there.2)
-    later (inr same) = inr same
-
-read_before : {X : Type 0} (xs : List X) (y b : X) (k : ℕ) → k < length xs → get_or (xs ++ y ∷ []) k b ≡ get_or xs k b
-read_before [] y b k small = absurd (omega arith)
-read_before (x ∷ xs) y b zero small = refl
-read_before (x ∷ xs) y b (suc k) small = read_before xs y b k (omega arith)
-
-pub still_there : {X : Type 0} (xs : List X) (y b : X) → Contains xs b → Contains (xs ++ y ∷ []) b
-still_there xs y b there =
-    let small = there.1 in
-    let longer = length-append xs (y ∷ []) in
-    (there.0, omega arith, read_before xs y b there.0 small ∙ there.2)
 
 -- the first that passes
 position_at : {X : Type 0} (p : X → Bool) (xs : List X) (i : ℕ) (d : X) → i < length xs → ((k : ℕ) → k < i → p (get_or xs k d) ≡ false) → p (get_or xs i d) ≡ true → position p xs ≡ Some i
 position_at p xs i d small before there =
     let first = position_or_len_is p xs i d (omega arith) before (λ _. there) in
-    ap (λ n. cond (nat_lt n (length xs)) (Some n) None) first ∙ ap (λ b. cond b (Some i) None) (lt_true i (length xs) small)
-  where
-    lt_true : (a b : ℕ) → a < b → nat_lt a b ≡ true
-    lt_true a b h = grind (arith, nat_tests)
+    ap (λ n. cond (nat_lt n (length xs)) (Some n) None) first ∙ ap (λ b. cond b (Some i) None) (lt-ltb i (length xs) small)
 
 position_none : {X : Type 0} (p : X → Bool) (xs : List X) → ((k : ℕ) (d : X) → k < length xs → p (get_or xs k d) ≡ false) → position p xs ≡ None
 position_none p [] none = refl
 position_none p (x ∷ xs) none =
     let d = x in
     let first = position_or_len_is p (x ∷ xs) (length (x ∷ xs)) d (omega arith) (λ k small. none k d small) (λ small. absurd (omega arith)) in
-    ap (λ n. cond (nat_lt n (length (x ∷ xs))) (Some n) None) first ∙ ap (λ b. cond b (Some (length (x ∷ xs))) None) (lt_itself (length (x ∷ xs)))
-  where
-    lt_itself : (a : ℕ) → nat_lt a a ≡ false
-    lt_itself a = grind (arith, nat_tests)
+    ap (λ n. cond (nat_lt n (length (x ∷ xs))) (Some n) None) first ∙ ap (λ b. cond b (Some (length (x ∷ xs))) None) (le-ltb (length (x ∷ xs)) (length (x ∷ xs)) (omega arith))
 
 -- ---- regions that leave the same to all others
 
@@ -104,7 +72,7 @@ of_word s u sender j w few those there = let known = there.3.1 in (there.0, ther
 
 -- the element at i, whatever stands for those that are not there
 element : (tests : List Test) (i : ℕ) (t d : Test) → i < length tests → t ≡ get_or tests i t → get_or tests i d ≡ t
-element tests i t d small is = read_alike tests i d t small ∙ sym is
+element tests i t d small is = get_or_default tests i d t small ∙ sym is
 
 pub so_far_start : (keys : List ℕ) (hosts : ℕ) (held : Option Held) (sender own : ℕ) (c : Command) (tests : List Test) (left : BitSet) → HasThose left any
     → AreReadSoFar keys hosts held sender own c tests 0 [] left
@@ -114,14 +82,6 @@ so_far_start keys hosts held sender own c tests left those = record {
   fails = λ s u known inside k d none. absurd (omega arith);
 }
 
--- below i + 1: below i, or i itself
-below_or_last : (P : ℕ → Type 0) (i k : ℕ) → k < i + 1 → (k < i → P k) → P i → P k
-below_or_last P i k small before last = at (eqb_tells k i)
-  where
-    at : (((k == i) ≡ true) × (k ≡ i)) ⊎ (((k == i) ≡ false) × (k ≢ i)) → P k
-    at (inl same) = subst P (sym same.1) last
-    at (inr other) = let apart = other.1 in before (omega arith)
-
 pub so_far_skip : (keys : List ℕ) (hosts : ℕ) (held : Option Held) (sender own : ℕ) (c : Command) (tests : List Test) (i : ℕ) (readings : List Reading) (left : BitSet) (t : Test)
     → AreReadSoFar keys hosts held sender own c tests i readings left → i < length tests → t ≡ get_or tests i t → IsAsked keys hosts held sender own c t Never
     → AreReadSoFar keys hosts held sender own c tests (i + 1) readings left
@@ -129,8 +89,8 @@ so_far_skip keys hosts held sender own c tests i readings left t so_far small is
   covered = so_far.covered;
   right = so_far.right;
   fails = λ s u known inside k d less.
-      below_or_last (λ n. matches (get_or tests n d) (answer u c) ≡ false) i k less (λ before. so_far.fails s u known inside k d before)
-      (ap (λ x. matches x (answer u c)) (element tests i t d small is) ∙ never_so s u known);
+      below_more (λ n. matches (get_or tests n d) (answer u c) ≡ false) i (λ m before. so_far.fails s u known inside m d before)
+      (ap (λ x. matches x (answer u c)) (element tests i t d small is) ∙ never_so s u known) k less;
 }
 
 -- the reading in which somebody has the key that an arm asks for
@@ -146,7 +106,7 @@ more_covered : (s : Scope) (u : UnitState) (sender i j : ℕ) (readings : List R
     → IsRead s sender readings u ⊎ IsInRegion s sender (open_to left) u → HasSomebody s u sender (Some (only j)) ⊎ HasNobody s u sender (only j)
     → IsRead s sender (readings ++ asked_at left w i ∷ []) u ⊎ IsInRegion s sender (open_to rest) u
 more_covered s u sender i j readings left w rest scope those remains (inl read) who =
-    inl (record { reading = read.reading; listed = still_there readings (asked_at left w i) read.reading read.listed; inside = read.inside })
+    inl (record { reading = read.reading; listed = Contains-append_left readings (asked_at left w i ∷ []) read.reading read.listed; inside = read.inside })
 more_covered s u sender i j readings left w rest scope those remains (inr inside) (inl there) = inl (record {
   reading = asked_at left w i;
   listed = Contains-push readings (asked_at left w i);
@@ -176,12 +136,12 @@ pub so_far_more : (keys : List ℕ) (hosts : ℕ) (held : Option Held) (sender o
     → AreReadSoFar keys hosts held sender own c tests (i + 1) (readings ++ asked_at left w i ∷ []) rest
 so_far_more keys hosts held sender own c tests i readings left w rest t j so_far small is asked those remains = record {
   covered = λ s u known. more_covered s u sender i j readings left w rest known.scope those remains (so_far.covered s u known) (somebody_or_none s u sender (only j) known.scope known.numbered);
-  right = λ s u b known there inside. more_right keys hosts held sender own c tests i readings left w t j so_far small is asked those s u b known inside (last_or_before readings (asked_at left w i) b there);
+  right = λ s u b known there inside. more_right keys hosts held sender own c tests i readings left w t j so_far small is asked those s u b known inside (Contains-push_cases readings (asked_at left w i) b there);
   fails = λ s u known inside k d less.
       let still = opened s u sender rest (open_to rest) refl refl inside in
-      below_or_last (λ n. matches (get_or tests n d) (answer u c) ≡ false) i k less
-      (λ before. so_far.fails s u known (in_open s u sender left (λ g r apart so. (was_left left rest j r remains (still g r apart so)).1)) k d before)
-      (ap (λ x. matches x (answer u c)) (element tests i t d small is) ∙ asked.1 s u known (λ g r apart so. (was_left left rest j r remains (still g r apart so)).0));
+      below_more (λ n. matches (get_or tests n d) (answer u c) ≡ false) i
+      (λ m before. so_far.fails s u known (in_open s u sender left (λ g r apart so. (was_left left rest j r remains (still g r apart so)).1)) m d before)
+      (ap (λ x. matches x (answer u c)) (element tests i t d small is) ∙ asked.1 s u known (λ g r apart so. (was_left left rest j r remains (still g r apart so)).0)) k less;
 }
 
 -- ---- at the end
@@ -208,10 +168,10 @@ pub read_at_last : (keys : List ℕ) (hosts : ℕ) (held : Option Held) (sender 
     → AreReadings keys hosts tests c held sender own (readings ++ left_at left arm ∷ [])
 read_at_last keys hosts held sender own c tests i readings left arm so_far last =
     are_readings keys hosts held sender own c tests (readings ++ left_at left arm ∷ []) (λ s u known. covered s u (so_far.covered s u known))
-    (λ s u b known there inside. right s u b known inside (last_or_before readings (left_at left arm) b there))
+    (λ s u b known there inside. right s u b known inside (Contains-push_cases readings (left_at left arm) b there))
   where
     covered : (s : Scope) (u : UnitState) → IsRead s sender readings u ⊎ IsInRegion s sender (open_to left) u → IsRead s sender (readings ++ left_at left arm ∷ []) u
-    covered s u (inl read) = record { reading = read.reading; listed = still_there readings (left_at left arm) read.reading read.listed; inside = read.inside }
+    covered s u (inl read) = record { reading = read.reading; listed = Contains-append_left readings (left_at left arm ∷ []) read.reading read.listed; inside = read.inside }
     covered s u (inr inside) = record { reading = left_at left arm; listed = Contains-push readings (left_at left arm); inside = inside }
 
     right : (s : Scope) (u : UnitState) (b : Reading) → IsKnown keys hosts held sender own s u → IsInRegion s sender b.region u → Contains readings b ⊎ (left_at left arm ≡ b)

@@ -3,8 +3,8 @@ use Rattle.pr_regions.proofs.Common.{◌≡◌, ℕ, ◌<◌, ◌≤◌, true, f
 use Rattle.pr_registry.proofs.lemmas.Contents.{key_read, key_not_read}
 use Rattle.pr_script.specs.declared.script.Test.TheVariants.{GoodHas}
 use Rattle.pr_script.specs.Grammar.{test_fits}
+use Rattle.pr_views.proofs.lemmas.Possibilities.Numbers.{once_of, same_registration, one_registration}
 use Rattle.pr_regions.specs.inside.Reads.{HasNobody}
-use Rattle.pr_regions.proofs.lemmas.Showing.Numbers.{are_distinct_keys, same_number_at, one_registration}
 use Rattle.pr_regions.proofs.lemmas.Purposes.Conduct.{number_named, declared_number}
 
 -- the number that the test names is the key's
@@ -37,7 +37,7 @@ not_there_with_nobody keys hosts held sender own k s u known fits other nobody =
     is_number g r so is =
         let named = numbered keys k fits in
         let fits_s : number_in keys k ≤ length s.keys = subst (λ (l : List ℕ). number_in keys k ≤ length l) (sym known.keys) named.0 in
-        same_number_at s.keys r (number_in keys k) (are_distinct_keys s.keys known.scope.keys) so.1 fits_s (sym so.2 ∙ is ∙ sym named.1 ∙ ap (λ l. key_at l (number_in keys k)) (sym known.keys))
+        same_registration s.keys r (number_in keys k) (once_of s.keys known.scope.keys) so.1 fits_s (sym so.2 ∙ is ∙ sym named.1 ∙ ap (λ l. key_at l (number_in keys k)) (sym known.keys))
 
     impossible : (g r : ℕ) → IsSo s u (Registration g r) → r ≡ number_in keys k → (((g == sender) ≡ true) × (g ≡ sender)) ⊎ (((g == sender) ≡ false) × (g ≢ sender)) → ⊥
     impossible g r so is (inl same) =

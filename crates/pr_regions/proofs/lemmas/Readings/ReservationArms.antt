@@ -1,8 +1,8 @@
 -- Which arm takes the data of READ RESERVATION.
-use Rattle.pr_regions.proofs.Common.{◌≡◌, ℕ, zero, suc, ◌+◌, ◌<◌, ◌≤◌, Bool, true, false, cond, not, ◌≢◌, ◌⊎◌, List, [], ◌∷◌, ◌++◌, length, get_or, is_some, is_none, if◌then◌else◌, IsTrue, nat_lt, ◌==◌, Some, None, Option, option_map, unwrap_or, sym, refl, ap, ◌∙◌, subst, inl, inr, arith, lit<, position, false≢true, nat_tests, eqb_tells, Command, Kind, is_key, State, key_of, Held, UnitState, matches, WRITTEN_LENGTH, Scope, key_at, Registration, IsSo, IsInRegion, any, only, is_of_registrant, Leaves, IsKnown, answer}
+use Rattle.pr_regions.proofs.Common.{◌≡◌, ℕ, zero, suc, ◌+◌, ◌<◌, ◌≤◌, Bool, true, false, cond, not, ◌≢◌, ◌⊎◌, List, [], ◌∷◌, ◌++◌, length, get_or, is_some, is_none, if◌then◌else◌, IsTrue, nat_lt, ◌==◌, Some, None, Option, option_map, unwrap_or, sym, refl, ap, ◌∙◌, subst, inl, inr, arith, lit<, position, false≢true, nat_tests, eqb_tells, Command, Kind, is_key, State, key_of, Held, UnitState, matches, WRITTEN_LENGTH, Scope, key_at, Registration, IsSo, IsInRegion, any, only, is_of_registrant, Leaves, IsKnown, answer, eq-eqb}
 use Rattle.std.specs.List.{All, Contains, prefix_len}
 use Rattle.std.proofs.lemmas.Option.{slice_get-get_or}
-use Rattle.std.proofs.lemmas.List.Elements.{Contains-push}
+use Rattle.std.proofs.lemmas.List.Elements.{Contains-push, Contains-push_cases, Contains-append_left}
 use Rattle.std.proofs.Common.{◌^◌}
 use Rattle.pr_cdb.specs.declared.command.Command.TheVariants.{ReadReservation}
 use Rattle.pr_cdb.specs.ReplyData.{holder}
@@ -15,13 +15,14 @@ use Rattle.pr_script.specs.declared.script.Test.{Test}
 use Rattle.pr_script.specs.declared.script.Test.TheVariants as test
 use Rattle.pr_script.specs.Grammar.{test_fits}
 use Rattle.pr_script.specs.Takes.{is_held_by, is_unheld}
+use Rattle.pr_views.proofs.lemmas.Possibilities.Numbers.{one_registration}
 use Rattle.pr_regions.specs.declared.region.Reading.{Reading}
 use Rattle.pr_regions.specs.Readings.{first_test, IsRead, AreReadings}
 use Rattle.pr_regions.specs.inside.Reads.{passes_held, AreHeldSoFar}
-use Rattle.pr_regions.proofs.lemmas.Showing.Numbers.{same_itself, few_keys, one_registration}
 use Rattle.pr_regions.proofs.lemmas.Regions.Effects.{is_registered-number}
 use Rattle.pr_regions.proofs.lemmas.Parts.Branches.{left_to, everyone, in_region, from_region}
-use Rattle.pr_regions.proofs.lemmas.Readings.KeyArms.{last_or_before, still_there, are_readings}
+use Rattle.pr_regions.proofs.lemmas.Portions.GatheredStates.{few_keys}
+use Rattle.pr_regions.proofs.lemmas.Readings.KeyArms.{are_readings}
 
 -- ---- what a test finds in the data
 
@@ -68,7 +69,7 @@ prefix_alike p q [] same = refl
 prefix_alike p q (x ∷ xs) same =
     (λ i. cond (not (same 0 x (omega arith) i)) (1 + prefix_alike p q xs (λ k d small. same (suc k) d (omega arith)) i) 0)
 
-position_alike : {X : Type 0} (p q : X → Bool) (xs : List X) → All (λ x. p x ≡ q x) xs → position p xs ≡ position q xs
+pub position_alike : {X : Type 0} (p q : X → Bool) (xs : List X) → All (λ x. p x ≡ q x) xs → position p xs ≡ position q xs
 position_alike p q xs same = ap (λ n. cond (nat_lt n (length xs)) (Some n) None) (prefix_alike p q xs same)
 
 pub first_found : (keys : List ℕ) (u : UnitState) (tests : List Test) (key : Option ℕ) → IsWellFormed u.registry → Fit keys tests → key_in u.registry ≡ key
@@ -149,7 +150,7 @@ holder_in_region keys hosts kind h sender own s u n known so g r apart at_g =
     by_place true is =
         let same : g ≡ h = grind (arith, nat_tests) in
         let number : r ≡ n = one_registration s u h r n known.scope (subst (λ x. IsSo s u (Registration x r)) same at_g) so in
-        ap (λ b. if b then only n r else any r) is ∙ ap (only n) number ∙ same_itself n
+        ap (λ b. if b then only n r else any r) is ∙ ap (only n) number ∙ eq-eqb n n refl
     by_place false is = ap (λ b. if b then only n r else any r) is
 
 pub held_start : (keys : List ℕ) (hosts : ℕ) (kind : Kind) (h sender own : ℕ) (c : Command) (tests : List Test) → AreHeldSoFar keys hosts kind h sender own c tests 0 []
@@ -172,7 +173,7 @@ pub held_more : (keys : List ℕ) (hosts : ℕ) (kind : Kind) (h sender own : �
     → AreHeldSoFar keys hosts kind h sender own (ReadReservation WRITTEN_LENGTH) tests (i + 1) (readings ++ b ∷ [])
 held_more keys hosts kind h sender own tests i key readings b fit small is apart leaves arm so_far = record {
   covered = λ s u n known so some few. by_number s u n known so some few (eqb_tells n (i + 1));
-  right = λ s u x known there inside. by_place s u x known inside (last_or_before readings b x there);
+  right = λ s u x known there inside. by_place s u x known inside (Contains-push_cases readings b x there);
 }
   where
     by_number : (s : Scope) (u : UnitState) (n : ℕ) → IsKnown keys hosts (held_by kind h) sender own s u → IsSo s u (Registration h n) → 1 ≤ n → n ≤ i + 1
@@ -188,7 +189,7 @@ held_more keys hosts kind h sender own tests i key readings b fit small is apart
     by_number s u n known so some few (inr other) =
         let differs = other.1 in
         let old = so_far.covered s u n known so some (omega arith) in
-        record { reading = old.reading; listed = still_there readings b old.reading old.listed; inside = old.inside }
+        record { reading = old.reading; listed = Contains-append_left readings (b ∷ []) old.reading old.listed; inside = old.inside }
 
     by_place : (s : Scope) (u : UnitState) (x : Reading) → IsKnown keys hosts (held_by kind h) sender own s u → IsInRegion s sender x.region u → Contains readings x ⊎ (b ≡ x)
         → first_test tests (answer u (ReadReservation WRITTEN_LENGTH)) ≡ x.arm
@@ -198,7 +199,7 @@ held_more keys hosts kind h sender own tests i key readings b fit small is apart
         let it = held_number keys hosts kind h sender own s u known in
         let there = from_region s u sender b.region (only (i + 1)) any None (few_keys s.keys known.scope.keys) leaves here in
         let fits : only (i + 1) it.number ≡ true =
-        sym (ap (λ b. if b then only (i + 1) it.number else any it.number) (same_itself h)) ∙ sym (ap (λ v. left_to (only (i + 1)) any v h it.number) known.held) ∙ there.registrations h it.number apart it.so in
+        sym (ap (λ b. if b then only (i + 1) it.number else any it.number) (eq-eqb h h refl)) ∙ sym (ap (λ v. left_to (only (i + 1)) any v h it.number) known.held) ∙ there.registrations h it.number apart it.so in
         let number : it.number ≡ suc i = grind (arith, nat_tests) in
         held_arm keys hosts kind h sender own tests i key s u fit small is known (subst (λ m. IsSo s u (Registration h m)) number it.so) ∙ sym arm ∙ ap (λ (y : Reading). y.arm) same
 

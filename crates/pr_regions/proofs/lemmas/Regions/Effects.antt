@@ -1,5 +1,5 @@
 -- What each service action makes of a registry, registration by registration.
-use Rattle.pr_regions.proofs.Common.{◌≡◌, ℕ, zero, suc, ◌≤◌, Bool, true, false, cond, not, ◌&&◌, ◌≢◌, ◌⊎◌, List, length, is_some, if◌then◌else◌, ◌==◌, Some, None, Option, unwrap_or, sym, refl, ap, ◌∙◌, subst, inl, inr, arith, nat_tests, eqb_tells, Kind, no_change, change_on_unregister, is_told_of_loss, is_key, Hosts, nobody, State, is_registered, key_of, contains-nobody, get-without, number_of, key_at, Transition, Does, never, is_of_registrant, told_if, MOST_KEYS}
+use Rattle.pr_regions.proofs.Common.{◌≡◌, ℕ, zero, suc, ◌≤◌, Bool, true, false, cond, not, ◌&&◌, ◌≢◌, ◌⊎◌, List, length, is_some, if◌then◌else◌, ◌==◌, Some, None, Option, unwrap_or, sym, refl, ap, ◌∙◌, subst, inl, inr, arith, nat_tests, eqb_tells, Kind, no_change, change_on_unregister, is_told_of_loss, is_key, Hosts, nobody, State, is_registered, key_of, contains-nobody, get-without, number_of, key_at, Transition, Does, never, is_of_registrant, told_if, MOST_KEYS, eq-eqb, ne_eqb}
 use Rattle.std.specs.FinSet as set
 use Rattle.std.specs.FinMap as map
 use Rattle.pr_registry.specs.declared.change.Change.{Change as Told}
@@ -8,7 +8,8 @@ use Rattle.pr_registry.specs.Registrations.{others, registrants, holds_alone}
 use Rattle.pr_registry.specs.Changes.{is_released, change_on_release, change_on_clear}
 use Rattle.pr_registry.specs.Effects.{with_registration as register, without_registration, after_release, after_clear}
 use Rattle.pr_registry.proofs.lemmas.Sets.{contains-just, contains-remove, contains-hosts_in, get-insert, get-empty}
-use Rattle.pr_regions.proofs.lemmas.Showing.Numbers.{same_itself, AreDistinct, is_some-key_at, same_number_at}
+use Rattle.pr_views.proofs.lemmas.Possibilities.Numbers.{same_registration}
+use Rattle.pr_regions.proofs.lemmas.Showing.Numbers.{AreDistinct, is_some-key_at}
 use Rattle.pr_regions.proofs.lemmas.Regions.ChangedStates.{Is, Acts}
 
 -- the registry becomes this, as tests of registrations say
@@ -42,20 +43,17 @@ acts keys hosts from to out left t3 t4 t5 u v t c few does b = record {
 
 -- ---- who is told
 
-pub other_host : (g from : ℕ) → g ≢ from → (g == from) ≡ false
-other_host g from other = grind (arith, nat_tests)
-
 -- the registrants are the hosts whose registration is not 0
 pub is_registered-number : (keys : List ℕ) (u : State) (g r : ℕ) → Is keys u g r → is_registered u g ≡ is_of_registrant r
 is_registered-number keys u g r is = ap is_some is.key ∙ is_some-key_at keys r is.known
 
 pub contains-others : (keys : List ℕ) (u : State) (from g r : ℕ) → g ≢ from → Is keys u g r → set.contains (others u from) g ≡ is_of_registrant r
 contains-others keys u from g r other is =
-    contains-remove (registrants u) from g ∙ ap (λ b. not b && set.contains (registrants u) g) (other_host g from other)
+    contains-remove (registrants u) from g ∙ ap (λ b. not b && set.contains (registrants u) g) (ne_eqb g from other)
     ∙ contains-hosts_in u.keys g ∙ is_registered-number keys u g r is
 
 pub not_itself : (s : Hosts) (h : ℕ) → set.contains (set.remove s h) h ≡ false
-not_itself s h = contains-remove s h h ∙ ap (λ b. not b && set.contains s h) (same_itself h)
+not_itself s h = contains-remove s h h ∙ ap (λ b. not b && set.contains s h) (eq-eqb h h refl)
 
 pub contains-others_itself : (u : State) (from : ℕ) → set.contains (others u from) from ≡ false
 contains-others_itself u from = not_itself (registrants u) from
@@ -73,8 +71,8 @@ is_key-number keys u g r j k once fits named is = ap (λ o. is_key o k) is.key �
         by (inr unequal) = unequal.0
 
     at : (((r == j) ≡ true) × (r ≡ j)) ⊎ (((r == j) ≡ false) × (r ≢ j)) → is_key (key_at keys r) k ≡ (r == j)
-    at (inl same) = ap (λ n. is_key (key_at keys n) k) same.1 ∙ ap (λ o. is_key o k) named ∙ same_itself k ∙ sym same.0
-    at (inr other) = differs (key_at keys r) (λ there. same_number_at keys r j once is.known fits (there ∙ sym named)) other.1 ∙ sym other.0
+    at (inl same) = ap (λ n. is_key (key_at keys n) k) same.1 ∙ ap (λ o. is_key o k) named ∙ eq-eqb k k refl ∙ sym same.0
+    at (inr other) = differs (key_at keys r) (λ there. same_registration keys r j once is.known fits (there ∙ sym named)) other.1 ∙ sym other.0
 
 contains-others_if : (keys : List ℕ) (u : State) (from g r : ℕ) (b : Bool) → g ≢ from → Is keys u g r → set.contains (if b then others u from else nobody) g ≡ told_if b r
 contains-others_if keys u from g r true other is = contains-others keys u from g r other is
@@ -118,8 +116,8 @@ on_release keys hosts from t u = record {
 pub on_register : (keys : List ℕ) (hosts from j k : ℕ) (u : State) → j ≤ length keys → key_at keys j ≡ Some k
     → Becomes keys hosts from (Some j) never (number_of hosts u.held) never never never u (register u from k) no_change
 on_register keys hosts from j k u fits named = record {
-  sender = λ r is. record { known = fits; key = get-insert u.keys from k from ∙ ap (λ b. cond b (Some k) (map.get u.keys from)) (same_itself from) ∙ sym named };
-  others = λ g r other is. get-insert u.keys from k g ∙ ap (λ b. cond b (Some k) (map.get u.keys g)) (other_host g from other);
+  sender = λ r is. record { known = fits; key = get-insert u.keys from k from ∙ ap (λ b. cond b (Some k) (map.get u.keys from)) (eq-eqb from from refl) ∙ sym named };
+  others = λ g r other is. get-insert u.keys from k g ∙ ap (λ b. cond b (Some k) (map.get u.keys g)) (ne_eqb g from other);
   reservation = refl;
   told_03 = λ g r other is. contains-nobody g;
   told_04 = λ g r other is. contains-nobody g;
@@ -154,9 +152,9 @@ pub on_unregister : (keys : List ℕ) (hosts from : ℕ) (u : State)
 on_unregister keys hosts from u = record {
   sender = λ r is. record {
     known = omega arith;
-    key = get-without u.keys (just from) from ∙ ap (λ b. if b then None else map.get u.keys from) (contains-just from from ∙ same_itself from);
+    key = get-without u.keys (just from) from ∙ ap (λ b. if b then None else map.get u.keys from) (contains-just from from ∙ eq-eqb from from refl);
   };
-  others = λ g r other is. get-without u.keys (just from) g ∙ ap (λ b. if b then None else map.get u.keys g) (contains-just from g ∙ other_host g from other);
+  others = λ g r other is. get-without u.keys (just from) g ∙ ap (λ b. if b then None else map.get u.keys g) (contains-just from g ∙ ne_eqb g from other);
   reservation = refl;
   told_03 = λ g r other is. contains-nobody g;
   told_04 = λ g r other is. contains-others_if keys u from g r (holds_alone u.held from && is_told_of_loss u.held) other is;

@@ -1,5 +1,5 @@
 -- Who has the key that a PREEMPT names, and what that makes of the command.
-use Rattle.pr_regions.proofs.Common.{◌≡◌, ℕ, zero, suc, ◌<◌, ◌≤◌, Bool, true, false, not, ◌≢◌, ◌⊎◌, List, length, get_or, is_some, if◌then◌else◌, ◌==◌, Some, None, Option, sym, refl, ap, ◌∙◌, subst, inl, inr, arith, false≢true, nat_tests, eqb_tells, Command, Kind, is_kind, ReplacesAll, preempt_case, held_by_rest, is_key, Hosts, nobody, Keys, without, hosts_with, is_empty, State, is_registered, key_of, new_reservation, Held, One, All, contains-nobody, get-without, UnitState, Scope, number_of, key_at, Registration, IsSo, HasNumber, Meets, Ends, Preempt, Standing, Transition, Conflict, Good, Does, never, only, told_but, lost_if, is_named}
+use Rattle.pr_regions.proofs.Common.{◌≡◌, ℕ, zero, suc, ◌<◌, ◌≤◌, Bool, true, false, not, ◌≢◌, ◌⊎◌, List, length, get_or, is_some, if◌then◌else◌, ◌==◌, Some, None, Option, sym, refl, ap, ◌∙◌, subst, inl, inr, arith, false≢true, nat_tests, eqb_tells, Command, Kind, is_kind, ReplacesAll, preempt_case, held_by_rest, is_key, Hosts, nobody, Keys, without, hosts_with, is_empty, State, is_registered, key_of, new_reservation, Held, One, All, contains-nobody, get-without, UnitState, Scope, number_of, key_at, Registration, IsSo, HasNumber, Meets, Ends, Preempt, Standing, Transition, Conflict, Good, Does, never, only, told_but, lost_if, is_named, eq-eqb}
 use Rattle.std.specs.FinMap as map
 use Rattle.std.specs.FinSet as set
 use Rattle.std.specs.Ordering.{nat_cmp}
@@ -9,9 +9,10 @@ use Rattle.pr_registry.specs.Hosts.{has_no_registrant}
 use Rattle.pr_registry.specs.Registrations.{IsKey}
 use Rattle.pr_registry.specs.Changes.{ReplacesHolder, RemovesKey}
 use Rattle.pr_registry.proofs.lemmas.Sets.{same_hosts, contains-hosts_with, is_empty_from_none, not_empty_from_some}
+use Rattle.pr_views.proofs.lemmas.Possibilities.Numbers.{once_of}
 use Rattle.pr_regions.specs.declared.purpose.Standing.TheVariants.{Named, Other}
 use Rattle.pr_regions.specs.Regions.{standing_of}
-use Rattle.pr_regions.proofs.lemmas.Showing.Numbers.{same_itself, AreDistinct, are_distinct_keys}
+use Rattle.pr_regions.proofs.lemmas.Showing.Numbers.{AreDistinct}
 use Rattle.pr_regions.proofs.lemmas.Purposes.Conduct.{key_named}
 use Rattle.pr_regions.proofs.lemmas.Regions.ChangedStates.{Is}
 use Rattle.pr_regions.proofs.lemmas.Regions.Effects.{is_key-number}
@@ -29,7 +30,7 @@ somebodys keys g k has = at (has_no_registrant keys k) refl
     at true is =
         let empty : set.len (hosts_with keys k) ≡ 0 = grind (arith, nat_tests) in
         let none = sym (contains-nobody g) ∙ ap (λ (s : Hosts). set.contains s g) (sym (set.empty_of_len (hosts_with keys k) empty)) in
-        let there = none ∙ contains-hosts_with keys k g ∙ ap (λ o. is_key o k) has ∙ same_itself k in
+        let there = none ∙ contains-hosts_with keys k g ∙ ap (λ o. is_key o k) has ∙ eq-eqb k k refl in
         absurd (false≢true there)
 
 pub nobodys : (keys : Keys) (k : ℕ) → ((g : ℕ) → is_key (map.get keys g) k ≡ false) → has_no_registrant keys k ≡ true
@@ -73,7 +74,7 @@ pub keys_of : (s : Scope) (j : ℕ) (t : Kind) (held : Option Held) (sender : �
 keys_of s j t held sender standing u c has m =
     let asked = asks s (Preempt j t) held sender standing u c has m in
     record {
-      once = are_distinct_keys s.keys m.scope.keys;
+      once = once_of s.keys m.scope.keys;
       fits = asked.named.0;
       named = asked.named.1;
       nonzero = not_zero s.keys j (key_named s.keys j) m.scope.keys.each asked.named.1;
@@ -163,7 +164,7 @@ replaced_ends s hosts j t old h held sender standing u c change has m alike is k
     let now = number_of s.hosts (Some (new_reservation t sender)) in
     let tells = told_but (not (is_kind old t)) j in
     let case : preempt_case u.registry.keys u.registry.held k ≡ ReplacesHolder old =
-    ap (λ v. preempt_case u.registry.keys v k) (m.held ∙ is) ∙ ap (λ b. if b then ReplacesHolder old else RemovesKey) (ap (λ o. is_key o k) key ∙ same_itself k) in
+    ap (λ v. preempt_case u.registry.keys v k) (m.held ∙ is) ∙ ap (λ b. if b then ReplacesHolder old else RemovesKey) (ap (λ o. is_key o k) key ∙ eq-eqb k k refl) in
     good_ends s (Preempt j t) held sender standing u c None (only j) now never tells (only j) change has m (somebodys u.registry.keys h k key) refl
     (leaves change None (only j) (number_of hosts (Some (new_reservation t sender))) now never tells (only j) (ap (λ n. number_of n (Some (new_reservation t sender))) (sym alike)) does)
     (in_case s.keys s.hosts sender None (only j) now never tells (only j) u.registry k t (ReplacesHolder old) case

@@ -1,5 +1,5 @@
 -- What PREEMPT makes of a registry, by its case.
-use Rattle.pr_regions.proofs.Common.{◌≡◌, ℕ, ◌≤◌, Bool, true, false, not, ◌&&◌, ◌≢◌, List, length, if◌then◌else◌, ◌==◌, Some, None, Option, unwrap_or, sym, refl, ap, ◌∙◌, subst, arith, Kind, no_change, is_kind, ReplacesAll, preempt_case, held_by_rest, Hosts, nobody, without, hosts_with, State, key_of, new_reservation, contains-nobody, get-without, number_of, key_at, never, is_of_registrant, told_but, lost_if}
+use Rattle.pr_regions.proofs.Common.{◌≡◌, ℕ, ◌≤◌, Bool, true, false, not, ◌&&◌, ◌≢◌, List, length, if◌then◌else◌, ◌==◌, Some, None, Option, unwrap_or, sym, refl, ap, ◌∙◌, subst, arith, Kind, no_change, is_kind, ReplacesAll, preempt_case, held_by_rest, Hosts, nobody, without, hosts_with, State, key_of, new_reservation, contains-nobody, get-without, number_of, key_at, never, is_of_registrant, told_but, lost_if, ne_eqb}
 use Rattle.std.specs.FinSet as set
 use Rattle.std.specs.FinMap as map
 use Rattle.pr_registry.specs.declared.change.Change.{Change as Told}
@@ -10,7 +10,7 @@ use Rattle.pr_registry.specs.Effects.{next, held_after_preempt, after_preempt}
 use Rattle.pr_registry.proofs.lemmas.Sets.{contains-remove, contains-difference, contains-hosts_with}
 use Rattle.pr_regions.proofs.lemmas.Showing.Numbers.{AreDistinct}
 use Rattle.pr_regions.proofs.lemmas.Regions.ChangedStates.{Is}
-use Rattle.pr_regions.proofs.lemmas.Regions.Effects.{Becomes, contains-others, contains-others_itself, is_key-number, other_host, not_itself}
+use Rattle.pr_regions.proofs.lemmas.Regions.Effects.{Becomes, contains-others, contains-others_itself, is_key-number, not_itself}
 
 -- what it makes of a registry in this case
 abbrev pub preempted_as : State → ℕ → ℕ → Kind → Case → State
@@ -39,7 +39,7 @@ without_some : (u : State) (removed : Hosts) (g : ℕ) (b : Bool) → set.contai
 without_some u removed g b is = get-without u.keys removed g ∙ ap (λ x. if x then None else map.get u.keys g) is
 
 removed_but : (s : Hosts) (from g : ℕ) → g ≢ from → set.contains (set.remove s from) g ≡ set.contains s g
-removed_but s from g other = contains-remove s from g ∙ ap (λ b. not b && set.contains s g) (other_host g from other)
+removed_but s from g other = contains-remove s from g ∙ ap (λ b. not b && set.contains s g) (ne_eqb g from other)
 
 with_key : (keys : List ℕ) (u : State) (g r j k : ℕ) → AreDistinct keys → j ≤ length keys → key_at keys j ≡ Some k → Is keys u g r → set.contains (hosts_with u.keys k) g ≡ (r == j)
 with_key keys u g r j k once fits named is = contains-hosts_with u.keys k g ∙ is_key-number keys u g r j k once fits named is

@@ -1,5 +1,6 @@
 -- What is so in the states that a view shows, reservation by reservation.
-use Rattle.pr_regions.proofs.Common.{◌≡◌, ◌≢◌, ℕ, zero, suc, ◌+◌, ◌<◌, ◌≤◌, Bool, true, false, ◌==◌, if◌then◌else◌, List, Option, Some, None, option_map, sym, ◌∙◌, subst, inl, inr, ◌⊎◌, arith, false≢true, nat_tests, eqb_tells, Held, One, All, UnitState, BitSet, has, Scope, Registration, IsSo, HasSomebody, MOST_KEYS}
+use Rattle.pr_regions.proofs.Common.{◌≡◌, ◌≢◌, ℕ, zero, suc, ◌+◌, ◌<◌, ◌≤◌, Bool, true, false, ◌==◌, if◌then◌else◌, List, Option, Some, None, option_map, sym, ◌∙◌, subst, inl, inr, ◌⊎◌, arith, false≢true, eqb_tells, Held, One, All, UnitState, BitSet, has, Scope, Registration, IsSo, HasSomebody, MOST_KEYS, eq-eqb, refl}
+use Rattle.std.proofs.lemmas.Bool.{eqb-true}
 use Rattle.pr_sets.specs.declared.wide.Wide.{Wide}
 use Rattle.pr_sets.specs.Wides.{has_wide}
 use Rattle.pr_views.specs.declared.possibilities.Possibilities.{Possibilities}
@@ -16,12 +17,6 @@ use Rattle.pr_regions.specs.Keeping.{IsShownSo, IsKept}
 use Rattle.pr_regions.specs.inside.Showing.{IsShownAt, IsShown, IsShownBelow}
 use Rattle.pr_regions.proofs.lemmas.Keeping.Additions.{grown, adds_both, adds_nothing, IsJoined, joined_old, joined_other, joined_either}
 use Rattle.pr_regions.proofs.lemmas.Portions.GatheredStates.{few_keys}
-
-same_number : (a b : ℕ) → (a == b) ≡ true → a ≡ b
-same_number a b is = grind (arith, nat_tests)
-
-itself : (a : ℕ) → (a == a) ≡ true
-itself a = grind (arith, nat_tests)
 
 -- ---- the region of every state
 
@@ -65,7 +60,7 @@ is_shown s view place senders region words x q is everything gathered some only_
     all u at (Registration g r) so =
         (so.0, subst (λ w. has_at w g r ≡ true) (sym are_words) (gathered.all u g r (at_everything s view place senders region u is everything at) so))
     all u at (Reservation n) so =
-        subst (λ w. has_wide w n ≡ true) (sym is_x) (only_x n ∙ subst (λ m. (n == m) ≡ true) (one_reservation s u n place.reservation so at.reservation) (itself n))
+        subst (λ w. has_wide w n ≡ true) (sym is_x) (only_x n ∙ subst (λ m. (n == m) ≡ true) (one_reservation s u n place.reservation so at.reservation) (eq-eqb n n refl))
     all u at (Attentions n) so =
         let seen = at.shown.pending in
         subst (λ w. has w n ≡ true) (sym is_pending) (subst (λ m. has view.pending m ≡ true) (one_attentions s u seen.0 n seen.1.1 so) seen.1.0)
@@ -83,7 +78,7 @@ is_shown s view place senders region words x q is everything gathered some only_
         record { unit = met.unit; shown = met.at.shown; is = met.is }
     only (Reservation n) got =
         let met = gathered.some q some in
-        let same = same_number n place.reservation (sym (only_x n) ∙ subst (λ w. has_wide w n ≡ true) is_x got) in
+        let same = eqb-true n place.reservation (sym (only_x n) ∙ subst (λ w. has_wide w n ≡ true) is_x got) in
         record { unit = met.unit; shown = met.at.shown; is = subst (λ m. IsSo s met.unit (Reservation m)) (sym same) met.at.reservation }
     only (Attentions n) got =
         let met = gathered.some n (subst (λ w. has w n ≡ true) is_pending got) in
@@ -179,7 +174,7 @@ is_place s view place hosts reservation same fits possible is_hosts is_it = reco
 }
 
 pub none_uniform : (w : BitSet) → ((r : ℕ) → has w r ≡ (r == 0)) → IsUniform w
-none_uniform w is none r got = same_number r 0 (sym (is r) ∙ got)
+none_uniform w is none r got = eqb-true r 0 (sym (is r) ∙ got)
 
 pub keys_uniform : (w : BitSet) → has w 0 ≡ false → IsUniform w
 keys_uniform w missing none r got = absurd (false≢true (sym missing ∙ none))

@@ -33,7 +33,7 @@ not_twice x xs i k once same is =
     false≢true (sym first ∙ again)
 
 -- a key that is declared once has one place
-pub same_place : (keys : List ℕ) (i j k : ℕ) → are_distinct (λ a b. a == b) keys ≡ true → slice_get keys i ≡ Some k → slice_get keys j ≡ Some k → i ≡ j
+same_place : (keys : List ℕ) (i j k : ℕ) → are_distinct (λ a b. a == b) keys ≡ true → slice_get keys i ≡ Some k → slice_get keys j ≡ Some k → i ≡ j
 same_place [] i j k once is also = let bad : None ≡ Some k = is in cc
 same_place (x ∷ xs) zero zero k once is also = refl
 same_place (x ∷ xs) zero (suc j) k once is also =
@@ -49,18 +49,17 @@ key_there [] i small = absurd (omega arith)
 key_there (x ∷ xs) zero small = (x, refl)
 key_there (x ∷ xs) (suc i) small = key_there xs i (omega arith)
 
-once_of : (keys : List ℕ) → AreDeclared keys → are_distinct (λ a b. a == b) keys ≡ true
+pub once_of : (keys : List ℕ) → AreDeclared keys → are_distinct (λ a b. a == b) keys ≡ true
 once_of keys declared = (and_parts (nat_le (length keys) MOST_KEYS) (are_distinct (λ j k. j == k) keys) declared.once).1
 
-pub same_registration : (keys : List ℕ) (r t : ℕ) → AreDeclared keys → r ≤ length keys → t ≤ length keys → key_at keys r ≡ key_at keys t → r ≡ t
-same_registration keys zero zero declared small also same = refl
-same_registration keys zero (suc j) declared small also same =
+pub same_registration : (keys : List ℕ) (r t : ℕ) → are_distinct (λ j k. j == k) keys ≡ true → r ≤ length keys → t ≤ length keys → key_at keys r ≡ key_at keys t → r ≡ t
+same_registration keys zero zero once small also same = refl
+same_registration keys zero (suc j) once small also same =
     let k = key_there keys j also in let bad : None ≡ Some k.0 = same ∙ k.1 in cc
-same_registration keys (suc i) zero declared small also same =
+same_registration keys (suc i) zero once small also same =
     let k = key_there keys i small in let bad : None ≡ Some k.0 = sym same ∙ k.1 in cc
-same_registration keys (suc i) (suc j) declared small also same =
-    let k = key_there keys j also in
-    ap suc (same_place keys i j k.0 (once_of keys declared) (same ∙ k.1) k.1)
+same_registration keys (suc i) (suc j) once small also same =
+    let k = key_there keys j also in ap suc (same_place keys i j k.0 once (same ∙ k.1) k.1)
 
 -- ---- reservations
 
@@ -182,7 +181,7 @@ reservation_of u formed = at u.held formed.held
 
 pub one_registration : (s : Scope) (u : UnitState) (g r t : ℕ) → IsScope s → IsSo s u (Registration g r) → IsSo s u (Registration g t) → r ≡ t
 one_registration s u g r t scope is also =
-    same_registration s.keys r t scope.keys is.1 also.1 (sym is.2 ∙ also.2)
+    same_registration s.keys r t (once_of s.keys scope.keys) is.1 also.1 (sym is.2 ∙ also.2)
 
 pub one_reservation : (s : Scope) (u : UnitState) (x y : ℕ) → IsSo s u (Reservation x) → IsSo s u (Reservation y) → x ≡ y
 one_reservation s u x y is also = is ∙ sym also

@@ -1,7 +1,7 @@
 -- A state that a view shows, from what is chosen for each nexus, a reservation and the owner's attentions.
 use Rattle.pr_views.proofs.Common.{◌≡◌, ℕ, zero, suc, ◌<◌, ◌≤◌, Bool, true, false, cond, not, ◌&&◌, ◌≢◌, List, length, is_some, IsTrue, nat_lt, ◌==◌, Some, None, Option, sym, refl, ap, ◌∙◌, subst, lit<, lt-ltb, and_parts, ltb-true, is_all, Held, One, All, UnitState, AreDeclared, is_reservation, Registration, Reservation, Attentions, IsSo, Fits}
 use Rattle.std.specs.FinSet as set
-use Rattle.std.proofs.lemmas.Bool.{not-true}
+use Rattle.std.proofs.lemmas.Bool.{not-true, eqb-true, eq-eqb}
 use Rattle.std.proofs.lemmas.Option.{slice_get_within, get_or_from_slice_get}
 use Rattle.pr_attention.specs.Attentions.{is_attention}
 use Rattle.pr_attention.specs.Flagged.{codes_of}
@@ -9,7 +9,6 @@ use Rattle.pr_attention.proofs.lemmas.Bits.{AreAttentions-codes_of}
 use Rattle.pr_registry.specs.Hosts.{map_where}
 use Rattle.pr_registry.specs.Registrations.{HasHolder, IsKey, key_of}
 use Rattle.pr_registry.proofs.lemmas.Sets.{get-map_where, not_empty_from_some}
-use Rattle.pr_registry.proofs.lemmas.Tables.{eq_itself, same_number}
 use Rattle.pr_unit.specs.Attentions.{of_host}
 use Rattle.pr_unit.specs.UnitStates.{IsWellFormed}
 use Rattle.pr_unit.proofs.lemmas.Attentions.Pairs.{contains-of_host}
@@ -40,7 +39,7 @@ reservation-state_of s f held q = refl
 
 pub attentions-state_of : (s : Scope) (f : ℕ → ℕ) (held : Option Held) (q : ℕ) → q < count_of_attentions → IsSo s (state_of s f held q) (Attentions q)
 attentions-state_of s f held q small =
-    (small, λ code. contains-of_host s.own (codes_of q) s.own code ∙ ap (λ b. b && set.contains (codes_of q) code) (eq_itself s.own))
+    (small, λ code. contains-of_host s.own (codes_of q) s.own code ∙ ap (λ b. b && set.contains (codes_of q) code) (eq-eqb s.own s.own refl))
 
 -- ---- it is well formed
 
@@ -89,7 +88,7 @@ well_formed-state_of s f held q scope numbers fits holder = record {
 
     pending : (h code : ℕ) → ((h == s.own) ≡ true) × (set.contains (codes_of q) code ≡ true) → (h < s.hosts) × IsTrue (is_attention code)
     pending h code is =
-        (subst (λ n. n < s.hosts) (sym (same_number h s.own is.0)) scope.own, AreAttentions-codes_of q code is.1)
+        (subst (λ n. n < s.hosts) (sym (eqb-true h s.own is.0)) scope.own, AreAttentions-codes_of q code is.1)
 
 -- ---- the view shows it
 
