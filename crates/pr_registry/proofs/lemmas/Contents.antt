@@ -1,12 +1,14 @@
 -- The data of READ KEYS and READ RESERVATION, read back.
-use Rattle.pr_registry.proofs.Common.{◌≡◌, ℕ, zero, suc, ◌+◌, ◌<◌, ◌≤◌, Bool, true, false, List, [], ◌∷◌, length, if◌then◌else◌, nat_lt, ◌==◌, Some, None, Option, sym, refl, ap, ◌∙◌, arith, false≢true, nat_tests, State, MOST_NEXUSES, map_where, IsWellFormed}
+use Rattle.pr_registry.proofs.Common.{◌≡◌, ℕ, zero, suc, ◌+◌, ◌<◌, ◌≤◌, Bool, true, false, List, [], ◌∷◌, length, if◌then◌else◌, nat_lt, ◌==◌, Some, None, Option, sym, refl, ap, ◌∙◌, arith, false≢true, State, MOST_NEXUSES, map_where, IsWellFormed, lt-ltb}
 use Rattle.std.proofs.Common.{◌*◌, ◌^◌, ◌||◌, ◌≢◌, ◌⊎◌, ◌++◌, nat_le, slice_index, inl, inr, add-one, lit<, length-append}
 use Rattle.std.specs.Int.{w32, w64, to_be_bytes}
 use Rattle.std.specs.FinMap as map
 use Rattle.std.specs.List.{flat_map, list_any}
+use Rattle.std.proofs.lemmas.Bool.{or_parts, eq-eqb, leb-false, lt-leb}
 use Rattle.std.proofs.lemmas.List.{take_all}
 use Rattle.std.proofs.lemmas.Bool.Decides.{eqb_tells}
 use Rattle.std.proofs.lemmas.List.Folds.{list_any-append}
+use Rattle.std.proofs.Math.Bool.{or-false, or-true}
 use Rattle.pr_cdb.specs.ReplyData.{keys_bytes, keys_in, reservation_bytes, holder, holder_in, cut}
 use Rattle.pr_cdb.specs.inside.KeyWidths.{HasKey}
 use Rattle.pr_cdb.proofs.lemmas.ReplyRoundTrip.{keys_in-keys_bytes, holder_in-reservation_bytes}
@@ -32,23 +34,15 @@ length-values (suc n) f = at (f n) refl (length-values n f)
 abbrev any_value : ℕ → (ℕ → Option ℕ) → (ℕ → Bool) → Bool
 any_value n f p = list_any p (KeysBelow n f)
 
-or_false : (b : Bool) → (b || false) ≡ b
-or_false true = refl
-or_false false = refl
-
 any_value-some : (n k : ℕ) (f : ℕ → Option ℕ) (p : ℕ → Bool) → f n ≡ Some k → any_value (suc n) f p ≡ (any_value n f p || p k)
 any_value-some n k f p is =
-    ap (list_any p) (rw add-one at (values-map_where-some n k f is)) ∙ list_any-append p (KeysBelow n f) (k ∷ []) ∙ ap (λ b. any_value n f p || b) (or_false (p k))
+    ap (list_any p) (rw add-one at (values-map_where-some n k f is)) ∙ list_any-append p (KeysBelow n f) (k ∷ []) ∙ ap (λ b. any_value n f p || b) (or-false (p k))
 
 any_value-none : (n : ℕ) (f : ℕ → Option ℕ) (p : ℕ → Bool) → f n ≡ None → any_value (suc n) f p ≡ any_value n f p
 any_value-none n f p is = ap (list_any p) (rw add-one at (values-map_where-none n f is))
 
 any_value-zero : (f : ℕ → Option ℕ) (p : ℕ → Bool) → any_value 0 f p ≡ false
 any_value-zero f p = ap (list_any p) (values-map_where-zero f)
-
-or_true : (b : Bool) → (b || true) ≡ true
-or_true true = refl
-or_true false = refl
 
 value_there : (n : ℕ) (f : ℕ → Option ℕ) (p : ℕ → Bool) (h k : ℕ) → h < n → f h ≡ Some k → p k ≡ true → any_value n f p ≡ true
 value_there zero f p h k small is passes = absurd (omega arith)
@@ -60,7 +54,7 @@ value_there (suc n) f p h k small is passes = at (f n) refl (eqb_tells h n) (λ 
     at (Some j) there (inl same) more =
         let equal : Some j ≡ Some k = sym there ∙ ap f (sym same.1) ∙ is in
         let key : j ≡ k = cc in
-        any_value-some n j f p there ∙ ap (λ b. any_value n f p || b) (ap p key ∙ passes) ∙ or_true (any_value n f p)
+        any_value-some n j f p there ∙ ap (λ b. any_value n f p || b) (ap p key ∙ passes) ∙ or-true (any_value n f p)
     at (Some j) there (inr other) more = let apart = other.1 in any_value-some n j f p there ∙ ap (λ b. b || p j) (more (omega arith))
 
 no_value : (n : ℕ) (f : ℕ → Option ℕ) (p : ℕ → Bool) → ((h k : ℕ) → h < n → f h ≡ Some k → p k ≡ false) → any_value n f p ≡ false
@@ -80,10 +74,7 @@ all_keys u w = same_keys u.keys (map_where u.hosts (key_of u)) (λ q. at q (nat_
     at : (q : ℕ) (b : Bool) (o : Option ℕ) → nat_lt q u.hosts ≡ b → key_of u q ≡ o → map.get u.keys q ≡ (if nat_lt q u.hosts then key_of u q else None)
     at q true o small is = sym (ap (λ b. if b then key_of u q else None) small)
     at q false None large is = is ∙ sym (ap (λ b. if b then key_of u q else None) large)
-    at q false (Some k) large is = let there = (w.keys q k is).0 in absurd (false≢true (sym large ∙ lt_true q u.hosts there))
-      where
-        lt_true : (a b : ℕ) → a < b → nat_lt a b ≡ true
-        lt_true a b h = grind (arith, nat_tests)
+    at q false (Some k) large is = let there = (w.keys q k is).0 in absurd (false≢true (sym large ∙ lt-ltb q u.hosts there))
 
 values_of : (u : State) → IsWellFormed u → map.values u.keys ≡ KeysBelow u.hosts (key_of u)
 values_of u w = ap map.values (all_keys u w)
@@ -104,25 +95,11 @@ few_values u w =
 -- each has 64 bits
 words_of : (xs : List ℕ) → list_any (λ k. nat_le (2 ^ 64) k) xs ≡ false → (i : ℕ) → slice_index xs i < 2 ^ 64
 words_of [] none i = lit< tt
-words_of (x ∷ xs) none zero = small x (first (nat_le (2 ^ 64) x) (list_any (λ k. nat_le (2 ^ 64) k) xs) none)
-  where
-    first : (a b : Bool) → (a || b) ≡ false → a ≡ false
-    first true b is = is
-    first false b is = refl
-
-    small : (k : ℕ) → nat_le (2 ^ 64) k ≡ false → k < 2 ^ 64
-    small k is = grind (arith, nat_tests)
-words_of (x ∷ xs) none (suc i) = words_of xs (second (nat_le (2 ^ 64) x) (list_any (λ k. nat_le (2 ^ 64) k) xs) none) i
-  where
-    second : (a b : Bool) → (a || b) ≡ false → b ≡ false
-    second true b is = absurd (false≢true (sym is))
-    second false b is = is
+words_of (x ∷ xs) none zero = leb-false (2 ^ 64) x (or_parts (nat_le (2 ^ 64) x) (list_any (λ k. nat_le (2 ^ 64) k) xs) none).0
+words_of (x ∷ xs) none (suc i) = words_of xs (or_parts (nat_le (2 ^ 64) x) (list_any (λ k. nat_le (2 ^ 64) k) xs) none).1 i
 
 value_words : (u : State) → IsWellFormed u → (i : ℕ) → slice_index (map.values u.keys) i < 2 ^ 64
-value_words u w = words_of (map.values u.keys) (ap (list_any (λ k. nat_le (2 ^ 64) k)) (values_of u w) ∙ no_value u.hosts (key_of u) (λ k. nat_le (2 ^ 64) k) (λ h k small is. fits k (w.keys h k is).1.1))
-  where
-    fits : (k : ℕ) → k < 2 ^ 64 → nat_le (2 ^ 64) k ≡ false
-    fits k small = grind (arith, nat_tests)
+value_words u w = words_of (map.values u.keys) (ap (list_any (λ k. nat_le (2 ^ 64) k)) (values_of u w) ∙ no_value u.hosts (key_of u) (λ k. nat_le (2 ^ 64) k) (λ h k small is. lt-leb (2 ^ 64) k (w.keys h k is).1.1))
 
 length-flat : (ks : List ℕ) → length (flat_map (to_be_bytes w64) ks) ≡ 8 * length ks
 length-flat [] = refl
@@ -143,10 +120,7 @@ keys_read u w =
 
 pub key_read : (u : State) (g k : ℕ) → IsWellFormed u → key_of u g ≡ Some k → list_any (λ j. j == k) (keys_in (cut 8192 (keys_bytes u.generation (map.values u.keys)))) ≡ true
 key_read u g k w is =
-    ap (list_any (λ j. j == k)) (keys_read u w ∙ values_of u w) ∙ value_there u.hosts (key_of u) (λ j. j == k) g k (w.keys g k is).0 is (same_itself k)
-  where
-    same_itself : (k : ℕ) → (k == k) ≡ true
-    same_itself k = grind (arith, nat_tests)
+    ap (list_any (λ j. j == k)) (keys_read u w ∙ values_of u w) ∙ value_there u.hosts (key_of u) (λ j. j == k) g k (w.keys g k is).0 is (eq-eqb k k refl)
 
 pub key_not_read : (u : State) (k : ℕ) → IsWellFormed u → ((g j : ℕ) → key_of u g ≡ Some j → (j == k) ≡ false) → list_any (λ j. j == k) (keys_in (cut 8192 (keys_bytes u.generation (map.values u.keys)))) ≡ false
 key_not_read u k w none =

@@ -1,10 +1,11 @@
 -- The keys of a table, in the order of the hosts.
-use Rattle.pr_registry.proofs.Common.{◌≡◌, ℕ, zero, suc, ◌+◌, ◌<◌, List, [], ◌∷◌, length, Some, None, Option, sym, refl, ap, ◌∙◌, subst, arith, nat_tests, Keys, map_where}
+use Rattle.pr_registry.proofs.Common.{◌≡◌, ℕ, zero, suc, ◌+◌, ◌<◌, List, [], ◌∷◌, Some, None, Option, sym, refl, ap, ◌∙◌, subst, arith, nat_tests, Keys, map_where}
 use Rattle.std.proofs.Common.{nat_cmp, ◌++◌, map, add-one}
 use Rattle.std.specs.declared.cmp.Ordering.TheVariants.{Greater}
 use Rattle.std.specs.Cmp.{nat_cmp_total}
 use Rattle.std.specs.FinMap as finmap
 use Rattle.std.specs.FinMap.{put}
+use Rattle.std.proofs.lemmas.List.{nil_from_length, map_push}
 use Rattle.pr_registry.specs.Hosts.{with_pair}
 
 -- each host of the list is below n
@@ -30,13 +31,9 @@ AreBelow-last n k (e ∷ es) below = (omega (arith, below.0), AreBelow-last n k 
 entries-insert_last : (m : Keys) (n k : ℕ) → AreBelow n (finmap.entries m) → finmap.entries (finmap.insert m n k) ≡ finmap.entries m ++ (n, k) ∷ []
 entries-insert_last m n k below = finmap.entries-insert nat_cmp_total m n k ∙ put_last n k (finmap.entries m) below
 
-no_length : (es : List (ℕ × ℕ)) → length es ≡ 0 → es ≡ []
-no_length [] e = refl
-no_length (x ∷ es) e = absurd (omega arith)
-
 no_entries : finmap.entries (finmap.empty {X = ℕ} {R = nat_cmp}) ≡ []
 no_entries =
-    no_length (finmap.entries (finmap.empty {X = ℕ} {R = nat_cmp})) (sym (finmap.len-entries (finmap.empty {X = ℕ} {R = nat_cmp})) ∙ finmap.len-empty nat_cmp ℕ)
+    nil_from_length (finmap.entries (finmap.empty {X = ℕ} {R = nat_cmp})) (sym (finmap.len-entries (finmap.empty {X = ℕ} {R = nat_cmp})) ∙ finmap.len-empty nat_cmp ℕ)
 
 below-with_pair : (n : ℕ) (m : Keys) (o : Option ℕ) → AreBelow n (finmap.entries m) → AreBelow (suc n) (finmap.entries (with_pair m n o))
 below-with_pair n m None below = AreBelow-more n (finmap.entries m) below
@@ -48,14 +45,10 @@ unfolding map_where
 entries_below zero f = subst (AreBelow 0) (sym no_entries) tt
 entries_below (suc n) f = below-with_pair n (map_where n f) (f n) (entries_below n f)
 
-map-last : (es : List (ℕ × ℕ)) (e : ℕ × ℕ) → map (λ p. p.1) (es ++ e ∷ []) ≡ map (λ p. p.1) es ++ e.1 ∷ []
-map-last [] e = refl
-map-last (x ∷ es) e = ap (λ l. x.1 ∷ l) (map-last es e)
-
 pub values-map_where-some : (n k : ℕ) (f : ℕ → Option ℕ) → f n ≡ Some k → finmap.values (map_where (n + 1) f) ≡ finmap.values (map_where n f) ++ k ∷ []
 unfolding map_where
 values-map_where-some n k f is =
-    rw add-one (rw is (ap (map (λ p. p.1)) (entries-insert_last (map_where n f) n k (entries_below n f)) ∙ map-last (finmap.entries (map_where n f)) (n, k)))
+    rw add-one (rw is (ap (map (λ p. p.1)) (entries-insert_last (map_where n f) n k (entries_below n f)) ∙ map_push (λ p. p.1) (finmap.entries (map_where n f)) (n, k)))
 
 pub values-map_where-none : (n : ℕ) (f : ℕ → Option ℕ) → f n ≡ None → finmap.values (map_where (n + 1) f) ≡ finmap.values (map_where n f)
 unfolding map_where

@@ -1,6 +1,5 @@
 -- Types that are the same.
-use Rattle.pr_registry.proofs.Common.{◌≡◌, true, Some, sym, refl, ap, ◌∙◌}
-use Rattle.std.proofs.lemmas.Bool.{eqb-true}
+use Rattle.pr_registry.proofs.Common.{◌≡◌, true, Some, sym, refl, ap, ◌∙◌, eqb-true}
 use Rattle.pr_cdb.specs.declared.command.Kind.{Kind}
 use Rattle.pr_cdb.specs.declared.command.Kind.TheVariants.{WriteExclusive}
 use Rattle.pr_cdb.specs.Kinds.{code_of, kind_of_code}

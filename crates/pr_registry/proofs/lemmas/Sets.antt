@@ -1,13 +1,14 @@
 -- What sets of hosts and registrations contain, and that these are equal where they contain the same.
-use Rattle.pr_registry.proofs.Common.{◌≡◌, ℕ, zero, suc, ◌+◌, Bool, true, false, cond, not, ◌&&◌, is_some, if◌then◌else◌, IsTrue, nat_lt, ◌==◌, Some, None, Option, sym, refl, ap, ◌∙◌, false≢true, Hosts, Keys, nobody, just, is_key, is_empty, hosts_in, hosts_with, map_where, hosts_where}
+use Rattle.pr_registry.proofs.Common.{◌≡◌, ℕ, zero, suc, ◌+◌, Bool, true, false, cond, not, ◌&&◌, is_some, if◌then◌else◌, IsTrue, nat_lt, ◌==◌, Some, None, Option, sym, refl, ap, ◌∙◌, false≢true, Hosts, Keys, nobody, just, is_key, is_empty, hosts_in, hosts_with, map_where, hosts_where, eqb-true}
 use Rattle.std.proofs.Common.{◌↔◌, ◌||◌, add-one}
 use Rattle.std.specs.Ordering.{nat_cmp}
 use Rattle.std.specs.Cmp.{nat_cmp_total, unsigned_tied}
 use Rattle.std.specs.FinSet as set
 use Rattle.std.specs.FinSet.{nat_cmp-IsAntisymmetric}
 use Rattle.std.specs.FinMap as map
+use Rattle.std.proofs.Math.Bool.{or-false}
 use Rattle.pr_sets.specs.Kept.{numbers_where}
-use Rattle.pr_sets.proofs.lemmas.Members.{contains-numbers_where, lt-zero, lt-suc, same_at}
+use Rattle.pr_sets.proofs.lemmas.Members.{contains-numbers_where, lt-zero, lt-suc}
 pub use Rattle.pr_sets.proofs.lemmas.Members.{same_numbers as same_hosts, contains-empty as contains-nobody, contains-insert, contains-remove, contains-difference, contains-union}
 use Rattle.pr_registry.specs.Hosts.{without, with_pair}
 
@@ -17,10 +18,6 @@ same_keys m n same = map.same_map nat_cmp_total nat_cmp-IsAntisymmetric m n same
 pub contains-just : (h q : ℕ) → set.contains (just h) q ≡ (q == h)
 contains-just h q =
     contains-insert nobody h q ∙ ap (λ b. q == h || b) (contains-nobody q) ∙ or-false (q == h)
-  where
-    or-false : (b : Bool) → (b || false) ≡ b
-    or-false true = refl
-    or-false false = refl
 
 pub get-insert : (m : Keys) (h k q : ℕ) → map.get (map.insert m h k) q ≡ (if q == h then Some k else map.get m q)
 get-insert m h k q =
@@ -60,9 +57,9 @@ get-map_where zero f q = get-empty q ∙ ap (λ b. cond b (f q) None) (sym (lt-z
 get-map_where (suc n) f q =
     elim (f n) as (λ o. f n ≡ o → map.get (with_pair (map_where n f) n o) q ≡ (if nat_lt q (suc n) then f q else None)) [
       | Some k ↦ λ is. get-insert (map_where n f) n k q ∙ ap (λ o. cond (q == n) (Some k) o) (get-map_where n f q)
-          ∙ more_some (q == n) (nat_lt q n) (Some k) (f q) (λ e. ap f (same_at q n e) ∙ is) ∙ ap (λ b. cond b (f q) None) (sym (lt-suc q n))
+          ∙ more_some (q == n) (nat_lt q n) (Some k) (f q) (λ e. ap f (eqb-true q n e) ∙ is) ∙ ap (λ b. cond b (f q) None) (sym (lt-suc q n))
       | None ↦ λ is. get-map_where n f q
-          ∙ more_none (q == n) (nat_lt q n) (f q) (λ e. ap f (same_at q n e) ∙ is) ∙ ap (λ b. cond b (f q) None) (sym (lt-suc q n))
+          ∙ more_none (q == n) (nat_lt q n) (f q) (λ e. ap f (eqb-true q n e) ∙ is) ∙ ap (λ b. cond b (f q) None) (sym (lt-suc q n))
     ] refl
   where
     more_some : (e l : Bool) (k x : Option ℕ) → (e ≡ true → x ≡ k) → cond e k (cond l x None) ≡ cond (e || l) x None
@@ -101,7 +98,7 @@ contains-hosts_with keys k q =
 
 pub key_is : (o : Option ℕ) (k : ℕ) → is_key o k ≡ true → o ≡ Some k
 key_is None k is = absurd (false≢true is)
-key_is (Some j) k is = ap Some (same_at j k is)
+key_is (Some j) k is = ap Some (eqb-true j k is)
 
 -- ---- none at all
 
@@ -113,7 +110,7 @@ is_empty_from_none keys none =
 pub not_empty_from_some : (keys : Keys) (q k : ℕ) → map.get keys q ≡ Some k → is_empty keys ≡ false
 not_empty_from_some keys q k some =
     elim (is_empty keys) as (λ b. is_empty keys ≡ b → b ≡ false) [
-      | true ↦ λ is. let none : None ≡ Some k = sym (get-empty q) ∙ ap (λ m. map.get m q) (sym (map.empty_of_len keys (same_at (map.len keys) 0 is))) ∙ some in cc
+      | true ↦ λ is. let none : None ≡ Some k = sym (get-empty q) ∙ ap (λ m. map.get m q) (sym (map.empty_of_len keys (eqb-true (map.len keys) 0 is))) ∙ some in cc
       | false ↦ λ _. refl
     ] refl
 
@@ -123,7 +120,7 @@ len-is_nobody true s tells = sym (ap (λ t. set.len t == 0) (tells.0 refl) ∙ a
 len-is_nobody false s tells = at (set.len s == 0) refl
   where
     at : (b : Bool) → (set.len s == 0) ≡ b → false ≡ b
-    at true none = tells.1 (set.empty_of_len s (same_at (set.len s) 0 none))
+    at true none = tells.1 (set.empty_of_len s (eqb-true (set.len s) 0 none))
     at false some = refl
 
 -- ---- for the crates above

@@ -1,6 +1,6 @@
 -- Each service action keeps states well formed, and the table follows the registrations.
-use Rattle.pr_registry.proofs.Common.{◌≡◌, ℕ, zero, suc, ◌<◌, ◌≤◌, Bool, true, false, cond, not, ◌&&◌, List, [], ◌∷◌, length, is_some, if◌then◌else◌, IsTrue, nat_lt, ◌==◌, slice_set, Some, None, Option, sym, refl, ap, ◌∙◌, subst, arith, false≢true, nat_tests, MOST_NEXUSES, preempt_case, removed_by_preempt, Hosts, Keys, just, is_key, is_empty, hosts_in, hosts_with, map_where, State, is_registered, IsWellFormed, table_keys, state_of}
-use Rattle.std.proofs.Common.{◌≢◌, ◌^◌, inl, inr, ◌⊎◌, lit<, option_map}
+use Rattle.pr_registry.proofs.Common.{◌≡◌, ℕ, zero, suc, ◌<◌, ◌≤◌, Bool, true, false, cond, not, ◌&&◌, List, [], ◌∷◌, length, is_some, if◌then◌else◌, IsTrue, nat_lt, ◌==◌, slice_set, Some, None, Option, sym, refl, ap, ◌∙◌, subst, arith, false≢true, nat_tests, MOST_NEXUSES, preempt_case, removed_by_preempt, Hosts, Keys, just, is_key, is_empty, hosts_in, hosts_with, map_where, State, is_registered, IsWellFormed, table_keys, state_of, eqb-true, lt-ltb}
+use Rattle.std.proofs.Common.{◌≢◌, ◌^◌, inl, inr, ◌⊎◌, lit<, option_map, eq-eqb}
 use Rattle.std.specs.FinSet as set
 use Rattle.std.specs.FinMap as map
 use Rattle.std.proofs.lemmas.Bool.Decides.{eqb_tells}
@@ -14,7 +14,7 @@ use Rattle.pr_registry.specs.inside.TableStates.{IsKeyOrNone}
 use Rattle.pr_registry.specs.Effects.{next, held_by_rest, held_or, held_after_preempt, with_registration, without_registration, with_reservation, after_release, after_clear, after_preempt}
 use Rattle.pr_registry.specs.Changes.{Case, ReplacesAll, ReplacesHolder, RemovesKey, HasKindIfReplacing, is_released}
 use Rattle.pr_registry.proofs.lemmas.Sets.{same_keys, get-insert, get-empty, get-without, contains-just, contains-remove, contains-hosts_with, not_empty_from_some}
-use Rattle.pr_registry.proofs.lemmas.Tables.{slot, get-table_keys, get-table_keys_in, lt_true, eq_itself, same_number}
+use Rattle.pr_registry.proofs.lemmas.Tables.{slot, get-table_keys, get-table_keys_in}
 
 -- ---- the table after a write
 
@@ -29,7 +29,7 @@ get-table_keys-set : (slots : List (Option ℕ)) (h : ℕ) (o : Option ℕ) (q :
     → map.get (table_keys MOST_NEXUSES (slice_set slots h o)) q ≡ (if q == h then o else map.get (table_keys MOST_NEXUSES slots) q)
 get-table_keys-set slots h o q whole small =
     get-table_keys MOST_NEXUSES (slice_set slots h o) q ∙ ap (λ x. cond (nat_lt q MOST_NEXUSES) x None) (slot-set slots h o q (omega arith))
-    ∙ swapped (nat_lt q MOST_NEXUSES) (q == h) (λ e. ap (λ x. nat_lt x MOST_NEXUSES) (same_number q h e) ∙ lt_true h MOST_NEXUSES small)
+    ∙ swapped (nat_lt q MOST_NEXUSES) (q == h) (λ e. ap (λ x. nat_lt x MOST_NEXUSES) (eqb-true q h e) ∙ lt-ltb h MOST_NEXUSES small)
     ∙ ap (λ x. cond (q == h) o x) (sym (get-table_keys MOST_NEXUSES slots q))
   where
     swapped : (l e : Bool) → (e ≡ true → l ≡ true) → cond l (cond e o (slot slots q)) None ≡ cond e o (cond l (slot slots q) None)
@@ -108,7 +108,7 @@ HasHolder-insert keys (Some (One t g)) h k has = (has.0, rw (get-insert keys h k
     there true = refl
     there false = has.1
 HasHolder-insert keys (Some (All t)) h k has =
-    (has.0, not_empty_from_some (map.insert keys h k) h k (get-insert keys h k h ∙ ap (λ b. cond b (Some k) (map.get keys h)) (eq_itself h)))
+    (has.0, not_empty_from_some (map.insert keys h k) h k (get-insert keys h k h ∙ ap (λ b. cond b (Some k) (map.get keys h)) (eq-eqb h h refl)))
 
 pub well_formed-registered : (u : State) (h k : ℕ) → IsWellFormed u → h < u.hosts → IsKey k → IsWellFormed (with_registration u h k)
 well_formed-registered u h k w small key = record {
@@ -219,7 +219,7 @@ HasHolder-replaced keys removed h (Some t) there typed kept =
     HasHolder-established (without keys removed) t h (rw (contains_key-without keys removed h kept) there)
 
 contains-remove_itself : (s : Hosts) (h : ℕ) → set.contains (set.remove s h) h ≡ false
-contains-remove_itself s h = contains-remove s h h ∙ ap (λ b. not b && set.contains s h) (eq_itself h)
+contains-remove_itself s h = contains-remove s h h ∙ ap (λ b. not b && set.contains s h) (eq-eqb h h refl)
 
 -- where a key is merely removed, a single holder has another
 IsKept-removed : (keys : Keys) (held : Option Held) (h sark : ℕ) → (case : Case) → preempt_case keys held sark ≡ case → case ≡ RemovesKey → IsKept (removed_by_preempt keys h sark case) held

@@ -1,34 +1,23 @@
 -- What a table of keys says of the registrations.
-use Rattle.pr_registry.proofs.Common.{◌≡◌, ℕ, ◌+◌, ◌<◌, ◌≤◌, Bool, true, false, cond, ◌&&◌, List, is_some, if◌then◌else◌, nat_lt, ◌==◌, Some, None, Option, sym, refl, ap, ◌∙◌, arith, nat_tests, MOST_NEXUSES, Hosts, is_key, is_empty, hosts_in, hosts_with, table_keys, hosts_where}
-use Rattle.std.proofs.Common.{◌||◌, slice_index_or}
+use Rattle.pr_registry.proofs.Common.{◌≡◌, ℕ, ◌+◌, ◌<◌, ◌≤◌, Bool, true, false, cond, ◌&&◌, List, is_some, if◌then◌else◌, nat_lt, ◌==◌, Some, None, Option, sym, refl, ap, ◌∙◌, arith, nat_tests, MOST_NEXUSES, Hosts, is_key, is_empty, hosts_in, hosts_with, table_keys, hosts_where, eqb-true, lt-ltb}
+use Rattle.std.proofs.Common.{◌||◌, slice_index_or, le-ltb, add-one}
 use Rattle.std.specs.FinSet as set
 use Rattle.std.specs.FinMap as map
+use Rattle.pr_sets.proofs.lemmas.Members.{lt-suc}
 use Rattle.pr_registry.proofs.lemmas.Sets.{same_hosts, same_keys, contains-hosts_where, contains-hosts_in, contains-hosts_with, get-map_where, is_empty_from_none, not_empty_from_some}
 
 -- the place of a host
 abbrev pub slot : List (Option ℕ) → ℕ → Option ℕ
 slot slots h = slice_index_or slots h None
 
-pub lt_true : (a b : ℕ) → a < b → nat_lt a b ≡ true
-lt_true a b h = grind (arith, nat_tests)
-
-pub lt_false : (a b : ℕ) → b ≤ a → nat_lt a b ≡ false
-lt_false a b h = grind (arith, nat_tests)
-
-pub eq_itself : (a : ℕ) → (a == a) ≡ true
-eq_itself a = grind (arith, nat_tests)
-
-pub same_number : (a b : ℕ) → (a == b) ≡ true → a ≡ b
-same_number a b e = grind (arith, nat_tests)
-
 pub get-table_keys : (n : ℕ) (slots : List (Option ℕ)) (q : ℕ) → map.get (table_keys n slots) q ≡ (if nat_lt q n then slot slots q else None)
 get-table_keys n slots q = get-map_where n (slot slots) q
 
 pub get-table_keys_in : (n : ℕ) (slots : List (Option ℕ)) (q : ℕ) → q < n → map.get (table_keys n slots) q ≡ slot slots q
-get-table_keys_in n slots q small = get-table_keys n slots q ∙ ap (λ b. cond b (slot slots q) None) (lt_true q n small)
+get-table_keys_in n slots q small = get-table_keys n slots q ∙ ap (λ b. cond b (slot slots q) None) (lt-ltb q n small)
 
 pub get-table_keys_past : (slots : List (Option ℕ)) (q : ℕ) → MOST_NEXUSES ≤ q → map.get (table_keys MOST_NEXUSES slots) q ≡ None
-get-table_keys_past slots q large = get-table_keys MOST_NEXUSES slots q ∙ ap (λ b. cond b (slot slots q) None) (lt_false q MOST_NEXUSES large)
+get-table_keys_past slots q large = get-table_keys MOST_NEXUSES slots q ∙ ap (λ b. cond b (slot slots q) None) (le-ltb q MOST_NEXUSES large)
 
 pub contains_key-table_keys : (slots : List (Option ℕ)) (q : ℕ) → q < MOST_NEXUSES → map.contains_key (table_keys MOST_NEXUSES slots) q ≡ is_some (slot slots q)
 contains_key-table_keys slots q small = ap is_some (get-table_keys_in MOST_NEXUSES slots q small)
@@ -93,7 +82,7 @@ abbrev pub is_removed_below : Hosts → ℕ → ℕ → Bool
 is_removed_below removed n q = nat_lt q n && set.contains removed q
 
 pub none_below_zero : (removed : Hosts) (q : ℕ) → is_removed_below removed 0 q ≡ false
-none_below_zero removed q = ap (λ b. b && set.contains removed q) (lt_false q 0 (omega arith))
+none_below_zero removed q = ap (λ b. b && set.contains removed q) (le-ltb q 0 (omega arith))
 
 pub all_below : (slots : List (Option ℕ)) (removed : Hosts) (q : ℕ)
     → (if is_removed_below removed MOST_NEXUSES q then None else map.get (table_keys MOST_NEXUSES slots) q) ≡ (if set.contains removed q then None else map.get (table_keys MOST_NEXUSES slots) q)
@@ -103,14 +92,11 @@ all_below slots removed q = at (nat_lt q MOST_NEXUSES) (set.contains removed q) 
     at false true outside = get-table_keys_past slots q (grind (arith, nat_tests))
     at _ _ _ = refl
 
-less_more : (q n : ℕ) → nat_lt q (n + 1) ≡ (q == n || nat_lt q n)
-less_more q n = grind (arith, nat_tests)
-
 pub removes_more : (removed : Hosts) (n q : ℕ) (o : Option ℕ) → set.contains removed n ≡ true
     → (if q == n then None else (if is_removed_below removed n q then None else o)) ≡ (if is_removed_below removed (n + 1) q then None else o)
 removes_more removed n q o is =
-    at (q == n) (nat_lt q n) (set.contains removed q) (λ e. ap (set.contains removed) (same_number q n e) ∙ is)
-    ∙ ap (λ b. if b && set.contains removed q then None else o) (sym (less_more q n))
+    at (q == n) (nat_lt q n) (set.contains removed q) (λ e. ap (set.contains removed) (eqb-true q n e) ∙ is)
+    ∙ ap (λ b. if b && set.contains removed q then None else o) (sym (rw add-one (lt-suc q n)))
   where
     at : (e l b : Bool) → (e ≡ true → b ≡ true) → (if e then None else (if l && b then None else o)) ≡ (if (e || l) && b then None else o)
     at true l b there = rw (there refl) refl
@@ -119,8 +105,8 @@ removes_more removed n q o is =
 pub keeps_more : (removed : Hosts) (n q : ℕ) (o : Option ℕ) → set.contains removed n ≡ false
     → (if is_removed_below removed n q then None else o) ≡ (if is_removed_below removed (n + 1) q then None else o)
 keeps_more removed n q o is =
-    at (q == n) (nat_lt q n) (set.contains removed q) (λ e. ap (set.contains removed) (same_number q n e) ∙ is)
-    ∙ ap (λ b. if b && set.contains removed q then None else o) (sym (less_more q n))
+    at (q == n) (nat_lt q n) (set.contains removed q) (λ e. ap (set.contains removed) (eqb-true q n e) ∙ is)
+    ∙ ap (λ b. if b && set.contains removed q then None else o) (sym (rw add-one (lt-suc q n)))
   where
     at : (e l b : Bool) → (e ≡ true → b ≡ false) → (if l && b then None else o) ≡ (if (e || l) && b then None else o)
     at true false b there = rw (there refl) refl
