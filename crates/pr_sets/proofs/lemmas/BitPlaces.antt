@@ -1,23 +1,16 @@
 -- A set of numbers as the bits of a number, at each width.
 use mir.Val.{bits}
-use Rattle.std.proofs.Common.{◌≡◌, ◌≢◌, ◌⊎◌, inl, inr, ℕ, ◌-◌, ◌*◌, ◌/◌, ◌%◌, ◌^◌, ◌<◌, ◌≤◌, Bool, true, false, ◌==◌, ◌&&◌, ◌||◌, not, nat_lt, nat_le, min, max, refl, sym, ap, ◌∙◌, arith, bit_or, bit_and}
+use Rattle.std.proofs.Common.{◌≡◌, ◌≢◌, ◌⊎◌, inl, inr, ℕ, ◌-◌, ◌*◌, ◌/◌, ◌%◌, ◌^◌, ◌<◌, ◌≤◌, Bool, true, false, ◌==◌, ◌&&◌, ◌||◌, not, nat_lt, nat_le, min, refl, sym, ap, ◌∙◌, arith, bit_or, bit_and, lt-ltb, le-ltb, ltb-true}
 use Rattle.std.specs.Int.{Width, bit_at, bit_not}
 use Rattle.std.specs.FinSet as set
 use Rattle.std.proofs.lemmas.Bool.Decides.{nat_tests, eqb_tells, leb_tells}
 use Rattle.std.proofs.lemmas.Nat.{pow_pos}
-use Rattle.std.proofs.lemmas.Nat.Bits.{bit_at_above, bit_at_or, bit_at_and, bit_at_not, bit_at_set_same, bit_at_set_other, bit_at_clear_same, bit_at_clear_other, bit_at-zero, bit_at-lt, same_from_bits_below, shr_and_one}
+use Rattle.std.proofs.lemmas.Nat.Bits.{bit_at_above, bit_at_and, bit_at_not, bit_at_set_same, bit_at_set_other, bit_at_clear_same, bit_at_clear_other, bit_at-zero, bit_at-lt, same_from_bits_below, shr_and_one}
+use Rattle.std.proofs.Math.Bool.{and-false, and-or_distrib_left}
 use Rattle.pr_sets.specs.Numbers.{Numbers}
 use Rattle.pr_sets.specs.Kept.{numbers_where}
 use Rattle.pr_sets.proofs.lemmas.Members.{same_numbers, contains-empty, contains-insert, contains-remove, contains-difference, contains-union, contains-numbers_where}
-
-lt_true : (a b : ℕ) → a < b → nat_lt a b ≡ true
-lt_true a b h = grind (arith, nat_tests)
-
-lt_false : (a b : ℕ) → b ≤ a → nat_lt a b ≡ false
-lt_false a b h = grind (arith, nat_tests)
-
-pub below_from : (a b : ℕ) → nat_lt a b ≡ true → a < b
-below_from a b is = grind (arith, nat_tests)
+use Rattle.pr_sets.proofs.lemmas.WordBits.{has-or}
 
 pub zero_from : (n : ℕ) → n < 2 → (n == 1) ≡ false → n ≡ 0
 zero_from n few is = grind (arith, nat_tests)
@@ -30,18 +23,14 @@ module _ (w : Width) where
   contains-placed b q = contains-numbers_where (bits w) (λ n. bit_at b n == 1) q
 
   pub contains-placed_below : (b q : ℕ) → q < bits w → set.contains (placed b) q ≡ (bit_at b q == 1)
-  contains-placed_below b q small = contains-placed b q ∙ ap (λ l. l && (bit_at b q == 1)) (lt_true q (bits w) small)
+  contains-placed_below b q small = contains-placed b q ∙ ap (λ l. l && (bit_at b q == 1)) (lt-ltb q (bits w) small)
 
   pub contains-placed_above : (b q : ℕ) → bits w ≤ q → set.contains (placed b) q ≡ false
-  contains-placed_above b q large = contains-placed b q ∙ ap (λ l. l && (bit_at b q == 1)) (lt_false q (bits w) large)
+  contains-placed_above b q large = contains-placed b q ∙ ap (λ l. l && (bit_at b q == 1)) (le-ltb q (bits w) large)
 
   pub contains-placed_clear : (b q : ℕ) → bit_at b q ≡ 0 → set.contains (placed b) q ≡ false
   contains-placed_clear b q is =
-      contains-placed b q ∙ ap (λ n. nat_lt q (bits w) && (n == 1)) is ∙ none (nat_lt q (bits w))
-    where
-      none : (l : Bool) → (l && false) ≡ false
-      none true = refl
-      none false = refl
+      contains-placed b q ∙ ap (λ n. nat_lt q (bits w) && (n == 1)) is ∙ and-false (nat_lt q (bits w))
 
   -- every bit of a number that fits is one of its places
   pub placed-has : (b q : ℕ) → b < 2 ^ bits w → (bit_at b q == 1) ≡ set.contains (placed b) q
@@ -63,7 +52,7 @@ module _ (w : Width) where
     where
       at : (q : ℕ) → (((q == n) ≡ true) × (q ≡ n)) ⊎ (((q == n) ≡ false) × (q ≢ n))
           → (nat_lt q (bits w) && (bit_at (bit_or b (1 * 2 ^ n % 2 ^ bits w)) q == 1)) ≡ (q == n || (nat_lt q (bits w) && (bit_at b q == 1)))
-      at q (inl same) = rw same.0 (rw same.1 (rw (lt_true n (bits w) small) (ap (λ m. m == 1) (bit_at_set_same w b n small))))
+      at q (inl same) = rw same.0 (rw same.1 (rw (lt-ltb n (bits w) small) (ap (λ m. m == 1) (bit_at_set_same w b n small))))
       at q (inr other) = rw other.0 (ap (λ m. nat_lt q (bits w) && (m == 1)) (bit_at_set_other w b n small q other.1))
 
   pub placed-remove : (b n : ℕ) → n < bits w → placed (bit_and b (bit_not w (1 * 2 ^ n % 2 ^ bits w))) ≡ set.remove (placed b) n
@@ -74,7 +63,7 @@ module _ (w : Width) where
       at : (q : ℕ) (l : Bool) → nat_lt q (bits w) ≡ l → (((q == n) ≡ true) × (q ≡ n)) ⊎ (((q == n) ≡ false) × (q ≢ n))
           → (l && (bit_at (bit_and b (bit_not w (1 * 2 ^ n % 2 ^ bits w))) q == 1)) ≡ (not (q == n) && (l && (bit_at b q == 1)))
       at q true inside (inl same) = rw same.0 (rw same.1 (ap (λ m. m == 1) (bit_at_clear_same w b n small)))
-      at q true inside (inr other) = rw other.0 (ap (λ m. m == 1) (bit_at_clear_other w b n small q (below_from q (bits w) inside) other.1))
+      at q true inside (inr other) = rw other.0 (ap (λ m. m == 1) (bit_at_clear_other w b n small q (ltb-true q (bits w) inside) other.1))
       at q false outside (inl same) = rw same.0 refl
       at q false outside (inr other) = rw other.0 refl
 
@@ -88,22 +77,15 @@ module _ (w : Width) where
 
       at : (q : ℕ) (l : Bool) → nat_lt q (bits w) ≡ l → (l && (bit_at (bit_and a (bit_not w b)) q == 1)) ≡ ((l && (bit_at a q == 1)) && not (l && (bit_at b q == 1)))
       at q true inside =
-          ap (λ m. m == 1) (bit_at_and a (bit_not w b) q ∙ ap (min (bit_at a q)) (bit_at_not w b q fits (below_from q (bits w) inside)))
+          ap (λ m. m == 1) (bit_at_and a (bit_not w b) q ∙ ap (min (bit_at a q)) (bit_at_not w b q fits (ltb-true q (bits w) inside)))
           ∙ one_only (bit_at a q) (bit_at b q) (bit_at-lt a q) (bit_at-lt b q)
       at q false outside = refl
 
   pub placed-union : (a b : ℕ) → placed (bit_or a b) ≡ set.union (placed a) (placed b)
   placed-union a b =
-      same_numbers _ _ (λ q. contains-placed (bit_or a b) q ∙ ap (λ m. nat_lt q (bits w) && (m == 1)) (bit_at_or a b q)
-      ∙ either (nat_lt q (bits w)) (bit_at a q) (bit_at b q) (bit_at-lt a q) (bit_at-lt b q)
+      same_numbers _ _ (λ q. contains-placed (bit_or a b) q ∙ ap (λ t. nat_lt q (bits w) && t) (has-or a b q)
+      ∙ and-or_distrib_left (nat_lt q (bits w)) (bit_at a q == 1) (bit_at b q == 1)
       ∙ (λ i. sym (contains-placed a q) i || sym (contains-placed b q) i) ∙ sym (contains-union (placed a) (placed b) q))
-    where
-      one_of : (x y : ℕ) → x < 2 → y < 2 → (max x y == 1) ≡ ((x == 1) || (y == 1))
-      one_of x y few also = grind (arith, nat_tests)
-
-      either : (l : Bool) (x y : ℕ) → x < 2 → y < 2 → (l && (max x y == 1)) ≡ ((l && (x == 1)) || (l && (y == 1)))
-      either true x y few also = one_of x y few also
-      either false x y few also = refl
 
   -- ---- none at all
 

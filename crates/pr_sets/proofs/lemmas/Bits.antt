@@ -1,14 +1,14 @@
 -- A set of numbers as the bits of a word.
 use Rattle.std.proofs.Common.{◌≡◌, ℕ, ◌+◌, ◌-◌, ◌/◌, ◌%◌, ◌^◌, ◌<◌, ◌≤◌, Bool, true, false, ◌==◌, nat_lt, min, refl, sym, ap, ◌∙◌, lit<, arith, bit_and}
 use Rattle.std.specs.Int.{w128, bit_at, bit_not, trailing_zeros}
-use Rattle.std.proofs.lemmas.Bool.{and_parts}
+use Rattle.std.proofs.lemmas.Bool.{and_parts, ltb-true}
 use Rattle.std.proofs.lemmas.Bool.Decides.{nat_tests}
 use Rattle.std.proofs.lemmas.Nat.{pow-add}
 use Rattle.std.proofs.lemmas.Nat.Bits.{bit_at_and, bit_at_not, bit_at-zero, bit_at-lt, bit_at_above, bit_at-trailing_zeros, same_from_bits_below}
 use Rattle.std.proofs.Math.Nat.{div-div-eq-div-mul}
 use Rattle.pr_sets.specs.Numbers.{Has, Within, IsNext, HasNoneFrom}
 use Rattle.pr_sets.specs.Kept.{numbers_of_bits}
-use Rattle.pr_sets.proofs.lemmas.BitPlaces.{below_from, zero_from, contains-placed, contains-placed_below, contains-placed_clear}
+use Rattle.pr_sets.proofs.lemmas.BitPlaces.{zero_from, contains-placed, contains-placed_below, contains-placed_clear}
 
 -- ---- one place and one bit
 
@@ -16,7 +16,7 @@ one_from : (n : ℕ) → (n == 1) ≡ true → n ≡ 1
 one_from n is = grind (arith, nat_tests)
 
 is_small : (bits q : ℕ) → Has (numbers_of_bits bits) q → q < 128
-is_small bits q there = below_from q 128 (and_parts (nat_lt q 128) (bit_at bits q == 1) (sym (contains-placed w128 bits q) ∙ there)).0
+is_small bits q there = ltb-true q 128 (and_parts (nat_lt q 128) (bit_at bits q == 1) (sym (contains-placed w128 bits q) ∙ there)).0
 
 bit_of : (bits q : ℕ) → Has (numbers_of_bits bits) q → bit_at bits q ≡ 1
 bit_of bits q there = one_from (bit_at bits q) (and_parts (nat_lt q 128) (bit_at bits q == 1) (sym (contains-placed w128 bits q) ∙ there)).1
@@ -73,7 +73,7 @@ place_of_bit bits q fits one =
     at (nat_lt q 128) refl
   where
     at : (t : Bool) → nat_lt q 128 ≡ t → q < 128
-    at true is = below_from q 128 is
+    at true is = ltb-true q 128 is
     at false is =
         let above : 128 ≤ q = grind (arith, nat_tests) in
         let clear = bit_at_above bits 128 q fits above in
@@ -95,7 +95,7 @@ module _ (bits from rest : ℕ) (fits : bits < 2 ^ 128) (is : rest ≡ bits / 2 
     where
       at : (t : Bool) → nat_lt (m - from) (trailing_zeros w128 rest) ≡ t → from + trailing_zeros w128 rest ≤ m
       at true early =
-          let small : m - from < trailing_zeros w128 rest = below_from _ _ early in
+          let small : m - from < trailing_zeros w128 rest = ltb-true _ _ early in
           let clear = bit_from bits from m late ∙ ap (λ n. bit_at n (m - from)) (sym is) ∙ known.2 (m - from) small in
           absurd (omega arith)
       at false early = grind (arith, nat_tests)

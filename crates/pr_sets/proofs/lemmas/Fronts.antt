@@ -3,6 +3,7 @@ use Rattle.std.proofs.Common.{◌≡◌, ◌≢◌, ◌⊎◌, ℕ, ◌+◌, ◌
 use Rattle.std.specs.FinSet as set
 use Rattle.std.proofs.lemmas.Bool.{lt-ltb, le-ltb}
 use Rattle.std.proofs.lemmas.Bool.Decides.{nat_tests, eqb_tells}
+use Rattle.std.proofs.Math.Bool.{and-false, and-true}
 use Rattle.pr_sets.specs.Numbers.{Numbers}
 use Rattle.pr_sets.proofs.lemmas.Members.{contains-insert}
 
@@ -10,16 +11,8 @@ use Rattle.pr_sets.proofs.lemmas.Members.{contains-insert}
 abbrev pub IsFront : (ℕ → Bool) → (ℕ → Bool) → ℕ → Type 0
 IsFront q p n = (m : ℕ) → q m ≡ (p m && nat_lt m n)
 
-and_false : (b : Bool) → (b && false) ≡ false
-and_false true = refl
-and_false false = refl
-
-and_true : (b : Bool) → (b && true) ≡ b
-and_true true = refl
-and_true false = refl
-
 pub front_none : (q p : ℕ → Bool) → ((m : ℕ) → q m ≡ false) → IsFront q p 0
-front_none q p none m = none m ∙ sym (ap (λ b. p m && b) (le-ltb m 0 (omega arith)) ∙ and_false (p m))
+front_none q p none m = none m ∙ sym (ap (λ b. p m && b) (le-ltb m 0 (omega arith)) ∙ and-false (p m))
 
 further : (m n : ℕ) → m ≢ n → nat_lt m n ≡ nat_lt m (n + 1)
 further m n differs = grind (arith, nat_tests)
@@ -47,7 +40,7 @@ pub front_all : (q p : ℕ → Bool) (n : ℕ) → IsFront q p n → ((m : ℕ) 
 front_all q p n front below m = front m ∙ at (p m) refl
   where
     at : (b : Bool) → p m ≡ b → (p m && nat_lt m n) ≡ p m
-    at true says = ap (λ b. p m && b) (lt-ltb m n (below m says)) ∙ and_true (p m)
+    at true says = ap (λ b. p m && b) (lt-ltb m n (below m says)) ∙ and-true (p m)
     at false denies = ap (λ b. b && nat_lt m n) denies ∙ sym denies
 
 -- ---- sets of the numbers of which a test says yes

@@ -7,7 +7,7 @@ use Rattle.std.specs.Cmp.{nat_cmp_total, unsigned_tied}
 use Rattle.std.specs.Option.{option_copied}
 use Rattle.std.specs.FinSet as set
 use Rattle.std.specs.FinSet.{nat_cmp-IsAntisymmetric}
-use Rattle.std.proofs.lemmas.Bool.{and_parts, cases_lt, cases_order}
+use Rattle.std.proofs.lemmas.Bool.{and_parts, cases_lt, cases_order, false_from_ne_true}
 use Rattle.std.proofs.lemmas.Bool.Decides.{nat_tests, eqb_tells}
 use Rattle.std.proofs.lemmas.List.{take_more, get_or_default}
 use Rattle.std.proofs.lemmas.List.Edits.{length-insert, get_or-insert_below, get_or-insert_at, get_or-insert_above}
@@ -16,6 +16,7 @@ use Rattle.std.proofs.lemmas.List.Sorted.{searched, IsPartitionedBy-ltb, IsPermu
 use Rattle.std.proofs.lemmas.Option.{slice_get_within, slice_get_read, slice_get_past, get_or_from_slice_get, slice_get-get_or}
 use Rattle.std.proofs.lemmas.Map.Keys.{sorted_from_strictly_increasing, non_decreasing_from_sorted}
 use Rattle.std.proofs.lemmas.Map.Views.{Contains-from_any}
+use Rattle.std.proofs.Math.Bool.{or-false}
 use Rattle.pr_sets.specs.Numbers.{Numbers, Has, Within, IsNext, HasNoneFrom}
 use Rattle.pr_sets.specs.Kept.{numbers_in}
 use Rattle.pr_sets.proofs.lemmas.Members.{same_numbers, contains-empty, contains-insert, contains-union, of_insert, Has-insert_same, Has-insert_other}
@@ -40,10 +41,6 @@ place_of xs q there =
 pub has_at : (xs : List ℕ) (q k : ℕ) → k < length xs → get_or xs k 0 ≡ q → Has (numbers_in xs) q
 has_at xs q k within is = contains-numbers_in xs q ∙ list_any_at (eq_by_cmp nat_cmp q) xs k 0 within (tied_from_same q _ (sym is))
 
-false_from : (b : Bool) → ((b ≡ true) → ⊥) → b ≡ false
-false_from true never = absurd (never refl)
-false_from false never = refl
-
 -- ---- a search
 
 pub rises : (xs : List ℕ) → IsStrictlyIncreasing xs → (i j : ℕ) → i ≤ j → j < length xs → get_or xs i 0 ≤ get_or xs j 0
@@ -55,7 +52,7 @@ IsGap xs i n = (i ≤ length xs) × ((k : ℕ) → k < i → get_or xs k 0 < n) 
 
 none_in_gap : (xs : List ℕ) (i n : ℕ) → IsGap xs i n → set.contains (numbers_in xs) n ≡ false
 none_in_gap xs i n gap =
-    false_from (set.contains (numbers_in xs) n) (λ there. at (place_of xs n there))
+    false_from_ne_true (set.contains (numbers_in xs) n) (λ there. at (place_of xs n there))
   where
     at : (k : ℕ) × (k < length xs) × (get_or xs k 0 ≡ n) → ⊥
     at place =
@@ -144,10 +141,6 @@ length_from_empty (x ∷ xs) none =
 
 pub union_none : (s : Numbers) (xs : List ℕ) → set.union s (numbers_in (take 0 xs)) ≡ s
 union_none s xs = same_numbers _ _ (λ q. contains-union s (numbers_in (take 0 xs)) q ∙ ap (λ b. set.contains s q || b) (contains-empty q) ∙ or-false (set.contains s q))
-  where
-    or-false : (b : Bool) → (b || false) ≡ b
-    or-false true = refl
-    or-false false = refl
 
 pub union_more : (s : Numbers) (xs : List ℕ) (i n : ℕ) → i < length xs → n ≡ get_or xs i 0
     → set.union s (numbers_in (take (i + 1) xs)) ≡ set.insert (set.union s (numbers_in (take i xs))) n
@@ -224,7 +217,7 @@ module _ (xs : List ℕ) (from i : ℕ) (up : IsStrictlyIncreasing xs) (start : 
 
   pub none_at : slice_get xs i ≡ None → HasNoneFrom (numbers_in xs) from
   none_at none m from_m =
-      false_from (set.contains (numbers_in xs) m) (λ there. no_place (place_late m from_m (place_of xs m there)))
+      false_from_ne_true (set.contains (numbers_in xs) m) (λ there. no_place (place_late m from_m (place_of xs m there)))
     where
       no_place : (k : ℕ) × (i ≤ k) × (k < length xs) × (get_or xs k 0 ≡ m) → ⊥
       no_place place = let some = slice_get-get_or xs i 0 (omega (arith, place.1, place.2)) in cc

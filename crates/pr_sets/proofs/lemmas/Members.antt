@@ -4,7 +4,9 @@ use Rattle.std.specs.Ordering.{nat_cmp}
 use Rattle.std.specs.Cmp.{nat_cmp_total, unsigned_tied, both_ways}
 use Rattle.std.specs.FinSet as set
 use Rattle.std.specs.FinSet.{nat_cmp-IsAntisymmetric}
+use Rattle.std.proofs.lemmas.Bool.{or_cases, eqb-true}
 use Rattle.std.proofs.lemmas.Bool.Decides.{nat_tests, eqb_tells}
+use Rattle.std.proofs.Math.Bool.{or-true}
 use Rattle.pr_sets.specs.Numbers.{Numbers, Has, AllBelow, Within}
 use Rattle.pr_sets.specs.Kept.{numbers_where}
 
@@ -37,22 +39,14 @@ pub ruleset reads = (contains-empty, contains-insert, contains-union)
 -- a member of the union is one of either
 pub of_either : (s t : Numbers) (q : ℕ) → Has (set.union s t) q → Has s q ⊎ Has t q
 of_either s t q there =
-    at (set.contains s q) (set.contains t q) (sym (contains-union s t q) ∙ there)
-  where
-    at : (b d : Bool) → (b || d) ≡ true → (b ≡ true) ⊎ (d ≡ true)
-    at true d is = inl refl
-    at false d is = inr is
+    or_cases (set.contains s q) (set.contains t q) (sym (contains-union s t q) ∙ there)
 
 pub Has-union_left : (s t : Numbers) (q : ℕ) → Has s q → Has (set.union s t) q
 Has-union_left s t q there = contains-union s t q ∙ ap (λ b. b || set.contains t q) there
 
 pub Has-union_right : (s t : Numbers) (q : ℕ) → Has t q → Has (set.union s t) q
 Has-union_right s t q there =
-    contains-union s t q ∙ ap (λ b. set.contains s q || b) there ∙ at (set.contains s q)
-  where
-    at : (b : Bool) → (b || true) ≡ true
-    at true = refl
-    at false = refl
+    contains-union s t q ∙ ap (λ b. set.contains s q || b) there ∙ or-true (set.contains s q)
 
 -- a member after an insert is the new one, or was one
 pub of_insert : (s : Numbers) (n q : ℕ) → Has (set.insert s n) q → (q ≡ n) ⊎ Has s q
@@ -68,11 +62,7 @@ Has-insert_same s n = let test : (n == n) ≡ true = grind (arith, nat_tests) in
 
 pub Has-insert_other : (s : Numbers) (n q : ℕ) → Has s q → Has (set.insert s n) q
 Has-insert_other s n q there =
-    contains-insert s n q ∙ ap (λ b. q == n || b) there ∙ at (q == n)
-  where
-    at : (b : Bool) → (b || true) ≡ true
-    at true = refl
-    at false = refl
+    contains-insert s n q ∙ ap (λ b. q == n || b) there ∙ or-true (q == n)
 
 -- ---- below a bound
 
@@ -101,9 +91,6 @@ lt-zero q = grind (arith, nat_tests)
 pub lt-suc : (q n : ℕ) → nat_lt q (suc n) ≡ (q == n || nat_lt q n)
 lt-suc q n = grind (arith, nat_tests)
 
-pub same_at : (q n : ℕ) → (q == n) ≡ true → q ≡ n
-same_at q n e = grind (arith, nat_tests)
-
 more_true : (e l x : Bool) → (e ≡ true → x ≡ true) → (e || (l && x)) ≡ ((e || l) && x)
 more_true true l x h = sym (h refl)
 more_true false l x h = refl
@@ -119,7 +106,7 @@ contains-numbers_where zero test q = contains-empty q ∙ ap (λ b. b && test q)
 contains-numbers_where (suc n) test q =
     elim (test n) as (λ b. test n ≡ b → set.contains (if b then set.insert (numbers_where n test) n else numbers_where n test) q ≡ (nat_lt q (suc n) && test q)) [
       | true ↦ λ is. contains-insert (numbers_where n test) n q ∙ ap (λ b. q == n || b) (contains-numbers_where n test q)
-          ∙ more_true (q == n) (nat_lt q n) (test q) (λ e. ap test (same_at q n e) ∙ is) ∙ ap (λ b. b && test q) (sym (lt-suc q n))
+          ∙ more_true (q == n) (nat_lt q n) (test q) (λ e. ap test (eqb-true q n e) ∙ is) ∙ ap (λ b. b && test q) (sym (lt-suc q n))
       | false ↦ λ is. contains-numbers_where n test q
-          ∙ more_false (q == n) (nat_lt q n) (test q) (λ e. ap test (same_at q n e) ∙ is) ∙ ap (λ b. b && test q) (sym (lt-suc q n))
+          ∙ more_false (q == n) (nat_lt q n) (test q) (λ e. ap test (eqb-true q n e) ∙ is) ∙ ap (λ b. b && test q) (sym (lt-suc q n))
     ] refl
