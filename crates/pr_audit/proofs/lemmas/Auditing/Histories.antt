@@ -2,6 +2,7 @@
 use Rattle.pr_audit.proofs.Common.{◌≡◌, ℕ, List, [], ◌∷◌, ◌++◌, take, sym, refl, ap, ◌∙◌, subst, append-nil, spelling, UnitState, IsLegal, Scenario, World, entry_of, Event, Host, Guest, UnitReset, Happens, world_from, Item, Sent, Reset, Adds, Reaches}
 use Rattle.std.proofs.Common.{drop}
 use Rattle.std.proofs.lemmas.List.{append_assoc, take-append-drop}
+pub use Rattle.std.proofs.lemmas.List.{same_from_push as last_same}
 use Rattle.pr_roles.specs.Worlds.{Run}
 
 -- ---- one event more
@@ -15,23 +16,6 @@ run_then s w v x (f ∷ fs) e run happens = (run.0, run.1, run_then s run.0 v x 
 not_nil : {X : Type 0} (xs : List X) (x : X) → xs ++ x ∷ [] ≡ [] → ⊥
 not_nil [] x is = let bad : x ∷ [] ≡ [] = is in cc
 not_nil (y ∷ xs) x is = let bad : y ∷ (xs ++ x ∷ []) ≡ [] = is in cc
-
-pub last_same : {X : Type 0} (xs ys : List X) (x y : X) → xs ++ x ∷ [] ≡ ys ++ y ∷ [] → (xs ≡ ys) × (x ≡ y)
-last_same [] [] x y is = let same : x ∷ [] ≡ y ∷ [] = is in (refl, cc)
-last_same [] (b ∷ ys) x y is =
-    let same : x ∷ [] ≡ b ∷ (ys ++ y ∷ []) = is in
-    let rest : ys ++ y ∷ [] ≡ [] = cc in
-    absurd (not_nil ys y rest)
-last_same (a ∷ xs) [] x y is =
-    let same : a ∷ (xs ++ x ∷ []) ≡ y ∷ [] = is in
-    let rest : xs ++ x ∷ [] ≡ [] = cc in
-    absurd (not_nil xs x rest)
-last_same (a ∷ xs) (b ∷ ys) x y is =
-    let same : a ∷ (xs ++ x ∷ []) ≡ b ∷ (ys ++ y ∷ []) = is in
-    let first : a ≡ b = cc in
-    let rest : xs ++ x ∷ [] ≡ ys ++ y ∷ [] = cc in
-    let parts = last_same xs ys x y rest in
-    (λ i. first i ∷ parts.0 i, parts.1)
 
 -- ---- the last event of a run
 

@@ -7,14 +7,12 @@ use Rattle.pr_script.specs.Names.{is_name}
 use Rattle.pr_roles.specs.declared.parts.Nexus.{Nexus as NexusPart}
 use Rattle.pr_roles.specs.Fitting.{Fits, is_nexus, is_role, is_start, is_task}
 use Rattle.pr_roles.specs.Scenarios.{task_of}
+use Rattle.pr_roles.proofs.lemmas.Scenarios.Nexuses.{nexus_at}
+pub use Rattle.pr_roles.proofs.lemmas.Scenarios.Parts.{count_of_parts}
 use Rattle.pr_roles.proofs.lemmas.Starts.AllowedStarts.{each_nexus}
 use Rattle.pr_audit.specs.inside.Auditing.{IsShort}
 
 -- ---- there is a part for each
-
-pub count_of_parts : (p : Parts) → length (scenario_of p).nexuses ≡ length p.nexuses.items
-unfolding scenario_of
-count_of_parts p = length-map p.nexuses.items nexus_of
 
 pub nexus_within : (p q : Parts) (h i : ℕ) → h < length (scenario_of p).nexuses → q ≡ p → i ≡ h → i < vec_len q.nexuses
 nexus_within p q h i there same at =
@@ -22,10 +20,6 @@ nexus_within p q h i there same at =
     let items = ap (λ r. length r.nexuses.items) same in
     let len = q.nexuses.ok.0 in
     omega arith
-
-nexus_at : (p : Parts) (k : ℕ) (d : NexusPart) → k < length p.nexuses.items → nexus (scenario_of p) k ≡ Some (nexus_of (slice_index_or p.nexuses.items k d))
-unfolding scenario_of
-nexus_at p k d small = slice_get-map nexus_of p.nexuses.items k ∙ ap (option_map nexus_of) (slice_get-get_or p.nexuses.items k d small)
 
 -- the part at this place is that of the nexus
 pub named : (p q : Parts) (h i : ℕ) (n : NexusPart) → h < length (scenario_of p).nexuses → q ≡ p → i ≡ h → n ≡ slice_index_or q.nexuses.items i n → nexus (scenario_of p) h ≡ Some (nexus_of n)
