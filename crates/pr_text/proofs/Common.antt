@@ -4,7 +4,7 @@ pub use Rattle.std.specs.List.{list_all, slice_get, list_any, position_from}
 pub use Rattle.std.specs.Option.{option_map_or}
 pub use Rattle.std.specs.Prelude.{unwrap_or}
 pub use Rattle.std.specs.Str.Lines.{lines}
-pub use Rattle.std.proofs.lemmas.Bool.{and_parts, false≢true}
+pub use Rattle.std.proofs.lemmas.Bool.{and_parts, false≢true, and_from, leb-true, le-leb, not-false, not-true, or_parts}
 pub use Rattle.std.proofs.lemmas.Bool.Decides.{nat_tests}
 pub use Rattle.std.proofs.lemmas.Iterator.Adapters.{position_from-zero}
 pub use Rattle.std.proofs.lemmas.List.Folds.{list_all-append}
@@ -28,7 +28,6 @@ pub use Rattle.pr_lines.specs.Versions.{since}
 pub use Rattle.pr_lines.specs.declared.item.RefusalKind.{RefusalKind}
 pub use Rattle.pr_lines.specs.declared.spelling.ParsedCommand.{ParsedCommand}
 pub use Rattle.pr_lines.proofs.lemmas.ScenarioLines.Terms.{is_item}
-pub use Rattle.pr_lines.proofs.lemmas.Tests.{both, true_le}
 pub use Rattle.pr_text.specs.Declarations.{Declared, nothing, WrittenTask, scripted, planned, Declaration, OpenLines, Context, before_all, outside, in_script, in_plan, OpenBlock, sending}
 pub use Rattle.pr_text.specs.Declaring.{codes_of, count_in, declared_keys, held_of}
 unfoldable pub use Rattle.pr_text.specs.Declaring.{number_of}

@@ -1,7 +1,7 @@
 -- The terms of a line are what they are meant to be: names are names, and keys are not zero.
 use Rattle.pr_lines.proofs.Common.{◌≡◌, ℕ, ◌+◌, ◌*◌, ◌^◌, ◌<◌, Bool, true, false, cond, List, [], ◌∷◌, map, length, take, drop, nat_lt, Some, None, fold, Option, refl, ap, ◌∙◌, arith, lit<, list_all, nat_tests, each, digit_value}
 use Rattle.std.proofs.Common.{add-zero, zero-add, ◌==◌, ◌&&◌, not, nat_le, slice_index, option_map, option_and_then, IfSome, codes, bytes_eq}
-use Rattle.std.proofs.lemmas.Bool.{and_parts}
+use Rattle.std.proofs.lemmas.Bool.{and_parts, and_from, leb-true, ltb-true}
 use Rattle.pr_cdb.specs.declared.command.Kind.{Kind}
 use Rattle.pr_registry.specs.Registrations.{is_all}
 use Rattle.pr_roles.specs.Fitting.{is_version}
@@ -25,7 +25,6 @@ use Rattle.pr_lines.specs.Keywords.{keyword_of}
 use Rattle.pr_lines.specs.inside.Keywords.{parse_plain, parse_after, parse_with}
 use Rattle.pr_lines.proofs.lemmas.ScenarioLines.Words.{by_keyword}
 use Rattle.pr_lines.proofs.lemmas.WordTerms.NumberRoom.{digit_more, hex_some}
-use Rattle.pr_lines.proofs.lemmas.Tests.{both, true_le, true_lt}
 
 abbrev pub is_key : ℕ → Bool
 is_key k = not (k == 0) && nat_lt k (2 ^ 64)
@@ -73,7 +72,7 @@ each_all : {A : Type 0} (p : A → Bool) (f : List ℕ → Option A) (ws : List 
 each_all p f [] sound = refl
 each_all p f (w ∷ ws) sound =
     bind_if (λ a. p a ≡ true) (λ ys. list_all p ys ≡ true) (λ y. option_map (λ ys. y ∷ ys) (each f ws)) (f w) (sound w)
-    (λ y h. map_if (λ ys. list_all p ys ≡ true) (λ ys. list_all p ys ≡ true) (λ ys. y ∷ ys) (each f ws) (each_all p f ws sound) (λ ys k. both _ _ h k))
+    (λ y h. map_if (λ ys. list_all p ys ≡ true) (λ ys. list_all p ys ≡ true) (λ ys. y ∷ ys) (each f ws) (each_all p f ws sound) (λ ys k. and_from _ _ h k))
 
 longer : {A : Type 0} (o : Option (List A)) (n m : ℕ) → n ≡ m → IfSome o (λ ys. length ys ≡ n) → IfSome o (λ ys. length ys ≡ m)
 longer None n m e h = tt
@@ -113,7 +112,7 @@ fold_below [] n i h each = rw (add-zero i) h
 fold_below (d ∷ digits) n i h each =
     let parts = and_parts (nat_lt (digit_value d) 16) _ each in
     let e : i + length (d ∷ digits) ≡ (i + 1) + length digits = omega arith in
-    rw e (fold_below digits (16 * n + digit_value d) (i + 1) (digit_more 16 n (digit_value d) i h (true_lt (digit_value d) 16 parts.0)) parts.1)
+    rw e (fold_below digits (16 * n + digit_value d) (i + 1) (digit_more 16 n (digit_value d) i h (ltb-true (digit_value d) 16 parts.0)) parts.1)
 
 number_sound : (ds : List ℕ) → IfSome (number 16 ds) (λ n. n < 16 ^ length ds)
 unfolding number
@@ -124,7 +123,7 @@ number_sound ds =
 hex_sound : (ds : List ℕ) → IfSome (hexadecimal 16 ds) (λ n. n < 2 ^ 64)
 hex_sound ds =
     cond_if (λ n. n < 2 ^ 64) (nat_lt 0 (length ds) && nat_le (length ds) 16) (number 16 ds) None
-    (λ e. hex_some (number 16 ds) (length ds) 16 (number_sound ds) (true_le (length ds) 16 (and_parts (nat_lt 0 (length ds)) _ e).1)) (λ e. tt)
+    (λ e. hex_some (number 16 ds) (length ds) 16 (number_sound ds) (leb-true (length ds) 16 (and_parts (nat_lt 0 (length ds)) _ e).1)) (λ e. tt)
 
 key_below : (w : List ℕ) → IfSome (key_or_zero w) (λ n. n < 2 ^ 64)
 unfolding key_or_zero
@@ -256,7 +255,7 @@ reservation_sound : (ws : List (List ℕ)) → IfSome (option_map (λ xs. declar
 reservation_sound ws =
     map_if (λ ys. (not (length ys == 0) ≡ true) × (list_all is_wanted ys ≡ true)) Sound (λ xs. declares (reservation_line xs)) (list_of start_reservation_of ws)
     (both_if (λ ys. not (length ys == 0) ≡ true) (λ ys. list_all is_wanted ys ≡ true) (list_of start_reservation_of ws) (listed_some start_reservation_of ws) (listed_all is_wanted start_reservation_of ws wanted_sound))
-    (λ x k. both _ _ k.0 k.1)
+    (λ x k. and_from _ _ k.0 k.1)
 
 after_sound : (k : Keyword) (ws : List (List ℕ)) → IfSome (parse_after k ws) Sound
 after_sound keyword.Keys ws = map_if (λ ys. list_all is_key ys ≡ true) Sound (λ keys. declares (keys_line keys)) (list_of key_of ws) (listed_all is_key key_of ws key_sound) (λ x h. h)

@@ -4,7 +4,7 @@ use Rattle.std.specs.Prelude.{option_map}
 use Rattle.std.proofs.Common.{suc, not, slice_index, ◌≢◌, inl, inr, subst, ltb, ◌==◌, if◌then◌else◌, position, filter, take_while}
 use Rattle.std.specs.List.{All, slice_split, before_first, after_first, position_or_len}
 use Rattle.std.specs.Str.Lines.{lines, lines_of_parts, strip_carriage_return}
-use Rattle.std.proofs.lemmas.Bool.{cases_lt}
+use Rattle.std.proofs.lemmas.Bool.{cases_lt, eq-eqb, ne_eqb}
 use Rattle.std.proofs.lemmas.List.{take_all, drop_all}
 use Rattle.std.proofs.lemmas.List.Splits.{slice_split_first, slice_split_none, length-slice_split}
 use Rattle.std.proofs.lemmas.List.Sums.{fails_before_first, take_while-cons}
@@ -66,12 +66,6 @@ kept_word w parts h e = rw h (take_while-cons (λ w. not (is_comment w)) w (filt
 is_some_word : (w : List ℕ) → 0 < length w → not (length w == 0) ≡ true
 is_some_word w h = grind (arith, nat_tests)
 
-is_hash : (b : ℕ) → b ≡ 35 → (b == 35) ≡ true
-is_hash b h = grind (arith, nat_tests)
-
-is_no_hash : (b : ℕ) → b ≢ 35 → (b == 35) ≡ false
-is_no_hash b h = grind (arith, nat_tests)
-
 -- the first part may be taken off
 kept_first : (line : List ℕ) → kept (slice_split is_blank line) ≡ kept (before_first is_blank line ∷ slice_split is_blank (after_first is_blank line))
 kept_first line =
@@ -93,11 +87,11 @@ module _ (line : List ℕ) where
 
   pub words_comment : 0 < length (before_first is_blank line) → slice_index (before_first is_blank line) 0 ≡ 35 → words line ≡ []
   unfolding words
-  words_comment h e = kept_first line ∙ kept_comment (before_first is_blank line) others (is_some_word _ h) (is_hash _ e)
+  words_comment h e = kept_first line ∙ kept_comment (before_first is_blank line) others (is_some_word _ h) (eq-eqb _ 35 e)
 
   pub words_word : 0 < length (before_first is_blank line) → slice_index (before_first is_blank line) 0 ≢ 35 → words line ≡ before_first is_blank line ∷ words (after_first is_blank line)
   unfolding words
-  words_word h e = kept_first line ∙ kept_word (before_first is_blank line) others (is_some_word _ h) (is_no_hash _ e)
+  words_word h e = kept_first line ∙ kept_word (before_first is_blank line) others (is_some_word _ h) (ne_eqb _ 35 e)
 
 pub words_none : words [] ≡ []
 unfolding words

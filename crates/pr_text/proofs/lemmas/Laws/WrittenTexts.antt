@@ -1,8 +1,7 @@
 -- What is written fits, and the first fault decides.
-use Rattle.pr_text.proofs.Common.{◌≡◌, ℕ, ◌+◌, ◌^◌, ◌<◌, Bool, true, false, cond, List, [], ◌∷◌, ◌++◌, length, is_some, Some, None, Ok, Err, Option, Result, sym, refl, ap, ◌∙◌, subst, arith, lines, false≢true, Held, Fits, Scenario, first_under, Declared, nothing, and_then, unless, IsDeclaredBy, all_placed, starts_somewhere, end_placed, answer_of, ReadError, missing_fault, IsDated, IsSound}
+use Rattle.pr_text.proofs.Common.{◌≡◌, ℕ, ◌+◌, Bool, true, false, cond, List, [], ◌∷◌, ◌++◌, length, is_some, Some, None, Ok, Err, Option, Result, sym, refl, ap, ◌∙◌, subst, lines, Fits, Scenario, Declared, nothing, and_then, unless, IsDeclaredBy, all_placed, starts_somewhere, end_placed, answer_of, ReadError, missing_fault, IsDated, IsSound}
 use Rattle.pr_roles.specs.Starts.{CanStart}
-use Rattle.pr_roles.specs.FirstStarts.{starts}
-use Rattle.pr_roles.proofs.lemmas.Starts.AllowedStarts.{first_allowed}
+use Rattle.pr_roles.proofs.lemmas.Starts.Reservations.{starts_are_found}
 use Rattle.pr_text.specs.declared.fault.ReadError.TheVariants.{EmptyStart}
 use Rattle.pr_text.specs.Texts.{line_placed, answer_of_lines}
 use Rattle.pr_text.specs.inside.Endings.{start_result}
@@ -62,21 +61,8 @@ ends_by (Some x) d e h = cc
 ends_well : (n : ℕ) (d e : Declared) → end_placed n d ≡ Ok e → EndsWell (missing_fault n d) d e
 ends_well n d e h = ends_by (missing_fault n d) d e (sym (ended_in_turn n d) ∙ h)
 
--- The generation is no part of what makes a state an allowed one: the state found has the generation 0.
-some_start : (s : Scenario) → Fits s → (o : Option (Option Held × List (Option ℕ))) → first_under (starts s) s.reservations ≡ o → is_some o ≡ true → CanStart s
-some_start s fits None is h = absurd (false≢true h)
-some_start s fits (Some first) is h =
-    let zero : Scenario = record s { generation = 0 } in
-    let fits_zero : Fits zero = record { version = fits.version; dated = fits.dated; resets = fits.resets; keys = fits.keys; reservations = fits.reservations; nexuses = fits.nexuses } in
-    let small : 0 < 2 ^ 32 = omega arith in
-    let a = (first_allowed zero first.0 first.1 fits_zero small is).1 in
-    record {
-      unit = _;
-      allowed = record { formed = a.formed; hosts = a.hosts; registrations = a.registrations; reservation = a.reservation; pending = a.pending };
-    }
-
 can_start : (d : Declared) (s : Scenario) → IsDeclaredBy d s → Fits s → starts_somewhere d ≡ true → CanStart s
-can_start d s kept fits h = some_start s fits (first_under (starts s) s.reservations) refl (ap (λ o. is_some o) (start_same d s kept) ∙ h)
+can_start d s kept fits h = (starts_are_found s fits).0 (ap (λ o. is_some o) (start_same d s kept) ∙ h)
 
 pub what_is_written_fits : WhatIsWrittenFits
 what_is_written_fits text s is =

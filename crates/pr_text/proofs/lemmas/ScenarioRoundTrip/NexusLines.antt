@@ -1,6 +1,8 @@
 -- The lines of one nexus have no fault.
-use Rattle.pr_text.proofs.Common.{◌≡◌, ℕ, suc, ◌+◌, ◌≤◌, Bool, true, false, cond, not, ◌&&◌, ◌||◌, List, [], ◌∷◌, ◌++◌, map, length, is_some, nat_lt, nat_le, ◌==◌, Some, None, Ok, Err, fold, filter, Option, Result, bytes_eq, sym, refl, ap, ◌∙◌, append_assoc, append-nil, arith, length-append, list_all, list_any, unwrap_or, and_parts, nat_tests, Command, Attention, Held, is_written, is_name, MOST_BUDGET, is_version, is_count, are_distinct, is_action, is_role, is_start, is_nexus, Nexus, Task, Scripted, Planned, MOST_CLAUSES, MOST_PLANNED, MOST_REFUSALS, Clause, ScenarioLine, declares, start_line, pending_line, refusals_line, role_line, script_line, plan_line, end_line, command_line, since, RefusalKind, both, true_le, Declared, WrittenTask, scripted, planned, Declaration, OpenLines, Context, outside, in_script, in_plan, codes_of, count_in, and_then, with_count, with_task, begun_script, item_placed, task_written, body_lines, all_said, ReadError, are_codes_distinct, start_placed, pending_placed, refusals_placed, role_placed, script_placed, plan_placed, planned_step, item_standing}
+use Rattle.pr_text.proofs.Common.{◌≡◌, ℕ, suc, ◌+◌, ◌≤◌, Bool, true, false, cond, not, ◌&&◌, ◌||◌, List, [], ◌∷◌, ◌++◌, map, length, is_some, nat_lt, nat_le, ◌==◌, Some, None, Ok, Err, fold, filter, Option, Result, bytes_eq, sym, refl, ap, ◌∙◌, append_assoc, append-nil, arith, length-append, list_all, list_any, unwrap_or, and_parts, nat_tests, Command, Attention, Held, is_written, is_name, MOST_BUDGET, is_version, is_count, are_distinct, is_action, is_role, is_start, is_nexus, Nexus, Task, Scripted, Planned, MOST_CLAUSES, MOST_PLANNED, MOST_REFUSALS, Clause, ScenarioLine, declares, start_line, pending_line, refusals_line, role_line, script_line, plan_line, end_line, command_line, since, RefusalKind, and_from, leb-true, Declared, WrittenTask, scripted, planned, Declaration, OpenLines, Context, outside, in_script, in_plan, codes_of, count_in, and_then, with_count, with_task, begun_script, item_placed, task_written, body_lines, all_said, ReadError, are_codes_distinct, start_placed, pending_placed, refusals_placed, role_placed, script_placed, plan_placed, planned_step, item_standing, not-true, or_parts}
 use Rattle.std.specs.FinSet as set
+use Rattle.std.proofs.lemmas.Bool.{or_from, not_from_false}
+use Rattle.std.proofs.Math.Bool.{and-false}
 use Rattle.std.proofs.Math.Seq.{set-append_seam}
 use Rattle.pr_attention.specs.declared.attention.Attention.TheVariants.{PowerOn, ReservationsPreempted, ReservationsReleased, RegistrationsPreempted}
 use Rattle.pr_attention.specs.Attentions.{Codes, no_code, code_of, is_attention, AreAttentions}
@@ -12,10 +14,8 @@ use Rattle.pr_lines.specs.CommandWords.{without_keys}
 use Rattle.pr_text.specs.inside.Chains.{at_name, start_at, pending_at, refusals_at, role_at, script_at, plan_at}
 use Rattle.pr_text.specs.ScriptRoundTrip.{Line, line, script_said}
 use Rattle.pr_text.specs.ScenarioRoundTrip.{attentions_in, pending_said, refusals_said, task_said, details_said}
-use Rattle.pr_text.proofs.lemmas.Sound.Trees.{no_not}
-use Rattle.pr_text.proofs.lemmas.Sound.Scripts.{or_no, no_true}
 use Rattle.pr_text.proofs.lemmas.ScriptRoundTrip.Lines.{goes, reread}
-use Rattle.pr_text.proofs.lemmas.Declarations.Names.{is_taken, neither, itself, number_there, element_there}
+use Rattle.pr_text.proofs.lemmas.Declarations.Names.{is_taken, itself, number_there, element_there}
 use Rattle.pr_text.proofs.lemmas.LineFaults.Order.{in_version}
 use Rattle.pr_text.proofs.lemmas.ScriptRoundTrip.Versions.{has_first}
 
@@ -78,11 +78,7 @@ attentions_are codes are = same_codes (codes_of (attentions_in codes)) codes eac
   where
     known : (q : ℕ) (b : Bool) → set.contains codes q ≡ b → (is_attention q && b) ≡ b
     known q true there = rw (are q there) refl
-    known q false there = none (is_attention q)
-      where
-        none : (a : Bool) → (a && false) ≡ false
-        none true = refl
-        none false = refl
+    known q false there = and-false (is_attention q)
 
     nothing_else : (b : Bool) (q : ℕ) → (b || set.contains no_code q) ≡ b
     nothing_else true q = refl
@@ -95,22 +91,22 @@ attentions_are codes are = same_codes (codes_of (attentions_in codes)) codes eac
         ∙ (any-kept codes q (PowerOn ∷ ReservationsPreempted ∷ ReservationsReleased ∷ RegistrationsPreempted ∷ []) ∙ known q (set.contains codes q) refl))
 
 any_in : {A : Type 0} (b : Bool) (q : A → Bool) (x : A) (xs : List A) → q x ≡ false → list_any q xs ≡ false → list_any q (cond b (x ∷ xs) xs) ≡ false
-any_in true q x xs first rest = neither (q x) (list_any q xs) first rest
+any_in true q x xs first rest = or_from (q x) (list_any q xs) first rest
 any_in false q x xs first rest = rest
 
 any_fewer : {A : Type 0} (p q : A → Bool) (xs : List A) → list_any q xs ≡ false → list_any q (filter p xs) ≡ false
 any_fewer p q [] h = refl
-any_fewer p q (x ∷ xs) h = let parts = or_no (q x) _ h in any_in (p x) q x (filter p xs) parts.0 (any_fewer p q xs parts.1)
+any_fewer p q (x ∷ xs) h = let parts = or_parts (q x) _ h in any_in (p x) q x (filter p xs) parts.0 (any_fewer p q xs parts.1)
 
 apart_in : {A : Type 0} (b : Bool) (same : A → A → Bool) (x : A) (xs : List A) → list_any (λ y. same y x) xs ≡ false → are_distinct same xs ≡ true → are_distinct same (cond b (x ∷ xs) xs) ≡ true
-apart_in true same x xs first rest = both (not (list_any (λ y. same y x) xs)) _ (no_true (list_any (λ y. same y x) xs) first) rest
+apart_in true same x xs first rest = and_from (not (list_any (λ y. same y x) xs)) _ (not_from_false (list_any (λ y. same y x) xs) first) rest
 apart_in false same x xs first rest = rest
 
 apart_still : {A : Type 0} (same : A → A → Bool) (p : A → Bool) (xs : List A) → are_distinct same xs ≡ true → are_distinct same (filter p xs) ≡ true
 apart_still same p [] h = refl
 apart_still same p (x ∷ xs) h =
     let parts = and_parts (not (list_any (λ y. same y x) xs)) _ h in
-    apart_in (p x) same x (filter p xs) (any_fewer p (λ y. same y x) xs (no_not _ parts.0)) (apart_still same p xs parts.1)
+    apart_in (p x) same x (filter p xs) (any_fewer p (λ y. same y x) xs (not-true _ parts.0)) (apart_still same p xs parts.1)
 
 attentions_apart : (codes : Codes) → are_codes_distinct (attentions_in codes) ≡ true
 attentions_apart codes = apart_still (λ x y. code_of x == code_of y) (λ x. set.contains codes (code_of x)) (PowerOn ∷ ReservationsPreempted ∷ ReservationsReleased ∷ RegistrationsPreempted ∷ []) refl
@@ -340,7 +336,7 @@ module _ (n version : ℕ) (dated : is_version version ≡ true) (keys : Option 
       let parts = and_parts (nat_le (length commands) MOST_PLANNED) _ h in
       said_first n (declares (plan_line name)) (map (λ c. line n (command_line (without_keys c))) commands ++ line n end_line ∷ []) _ _ _ old (plan_begins s p b f r)
       (said_on (map (λ c. line n (command_line (without_keys c))) commands) (line n end_line ∷ []) _ (with x (in_plan (length before) commands)) _
-      (commands_go x (length before) [] commands parts.1 (let few_commands = true_le (length commands) MOST_PLANNED parts.0 in omega arith))
+      (commands_go x (length before) [] commands parts.1 (let few_commands = leb-true (length commands) MOST_PLANNED parts.0 in omega arith))
       (said_first n end_line [] _ _ _ old (plan_ends x commands) refl))
 
 -- ---- all of them
@@ -372,5 +368,5 @@ details_go n version dated keys vs g rs before after x free has fits are =
     (pending_goes n version dated keys vs g rs before after x.name free guest (Some x.start) (attentions_in x.pending) x.pending (attentions_apart x.pending) (attentions_are x.pending are))
     (both_go n version dated keys vs g rs before after x.name free guest (Some x.start) pending x.busy x.full _ _ busies.0 fulls.0
     (said_on (map (λ c. line n (declares (role_line x.name c))) x.role) _ _ _ _
-    (roles_go n version dated keys vs g rs before after x.name free guest (Some x.start) pending (count_said x.busy) (count_said x.full) [] x.role roles.1 (let few_roles = true_le (length x.role) MOST_CLAUSES roles.0 in omega arith))
+    (roles_go n version dated keys vs g rs before after x.name free guest (Some x.start) pending (count_said x.busy) (count_said x.full) [] x.role roles.1 (let few_roles = leb-true (length x.role) MOST_CLAUSES roles.0 in omega arith))
     (task_goes n version dated keys vs g rs before after x.name free x.task (Some x.start) pending (count_said x.busy) (count_said x.full) x.role fulls.1 rest.1))))

@@ -1,6 +1,9 @@
 -- The lines of a whole scenario have no fault.
-use Rattle.pr_text.proofs.Common.{◌≡◌, ℕ, zero, suc, ◌+◌, ◌<◌, ◌≤◌, Bool, true, false, not, ◌&&◌, List, [], ◌∷◌, ◌++◌, map, length, is_some, nat_lt, nat_le, ◌==◌, Some, None, Ok, Option, option_map, bytes_eq, sym, refl, ap, ◌∙◌, append_assoc, append-nil, arith, length-append, list_all, slice_get, option_map_or, unwrap_or, and_parts, nat_tests, Held, is_version, are_resets, most_declared, are_distinct, is_nexus, Nexus, Task, Scripted, Planned, first_under, MOST_RESETS, each, fence_line, declares, resets_line, keys_line, reservation_line, generation_line, since, true_le, Declared, nothing, Declaration, outside, held_of, number_of, nexus_written, nexus_declared, all_said, start_of, first_unscripted, end_placed, item_standing, keys_placed, nexus_placed, reservation_placed, generation_placed, resets_placed}
+use Rattle.pr_text.proofs.Common.{◌≡◌, ℕ, zero, suc, ◌+◌, ◌<◌, ◌≤◌, Bool, true, false, not, ◌&&◌, List, [], ◌∷◌, ◌++◌, map, length, is_some, nat_lt, nat_le, ◌==◌, Some, None, Ok, Option, option_map, bytes_eq, sym, refl, ap, ◌∙◌, append_assoc, append-nil, arith, length-append, list_all, slice_get, option_map_or, unwrap_or, and_parts, nat_tests, Held, is_version, are_resets, most_declared, are_distinct, is_nexus, Nexus, Task, Scripted, Planned, first_under, MOST_RESETS, each, fence_line, declares, resets_line, keys_line, reservation_line, generation_line, since, leb-true, Declared, nothing, Declaration, outside, held_of, number_of, nexus_written, nexus_declared, all_said, start_of, first_unscripted, end_placed, item_standing, keys_placed, nexus_placed, reservation_placed, generation_placed, resets_placed}
 use Rattle.std.specs.List.{All, flat_map}
+use Rattle.std.proofs.lemmas.Bool.{ltb-true}
+use Rattle.std.proofs.lemmas.List.Elements.{All-head, All-tail}
+use Rattle.std.proofs.Math.Bool.{and-false}
 use Rattle.pr_registry.specs.declared.held.Held.TheVariants.{One}
 use Rattle.pr_registry.specs.Registrations.{is_all}
 use Rattle.pr_attention.specs.Attentions.{AreAttentions}
@@ -9,16 +12,9 @@ use Rattle.pr_roles.proofs.lemmas.Starts.AllowedStarts.{start_found}
 use Rattle.pr_roles.specs.declared.limits.TheConstants.{MOST_KEYS}
 use Rattle.pr_text.specs.ScriptRoundTrip.{line}
 use Rattle.pr_text.specs.ScenarioRoundTrip.{task_line, details_said, keys_said, resets_said, wanted_by, ScenariosHaveNoFault}
-use Rattle.pr_lines.proofs.lemmas.Tests.{true_lt}
 use Rattle.pr_text.proofs.lemmas.Declarations.Names.{names, is_taken, free_of, names_moved, itself, number_nowhere, number_there}
 use Rattle.pr_text.proofs.lemmas.ScenarioRoundTrip.NexusLines.{one_longer, said_on, said_first, pending_same, count_said, count_same, is_planned, placed, bare, full, is_nexus_of, details_go}
 use Rattle.pr_text.proofs.lemmas.ScriptRoundTrip.Versions.{has_by, has_first}
-
-all_first : {A : Type 0} (P : A → Type 0) (x : A) (xs : List A) → All P (x ∷ xs) → P x
-all_first P x xs all = all 0 x (omega arith)
-
-all_rest : {A : Type 0} (P : A → Type 0) (x : A) (xs : List A) → All P (x ∷ xs) → All P xs
-all_rest P x xs all = λ k d below. all (suc k) d (omega arith)
 
 -- ---- the version, the keys, the generation, and the resets
 
@@ -117,9 +113,9 @@ details_all n version keys vs g rs before (x ∷ ns) dated has apart fits are =
     let parts = and_parts (is_nexus (unwrap_or keys []) x) _ fits in
     let have = and_parts (is_nexus_of version x) _ has in
     said_on (details_said n x) (flat_map (details_said n) ns) _ (placed version keys vs g rs (before ++ full n x ∷ map (bare n) ns) outside) _
-    (details_go n version dated keys vs g rs before (map (bare n) ns) x (free_of before x.name (named ns) apart) have.0 parts.0 (all_first (λ y. AreAttentions y.pending) x ns are))
+    (details_go n version dated keys vs g rs before (map (bare n) ns) x (free_of before x.name (named ns) apart) have.0 parts.0 (All-head (λ y. AreAttentions y.pending) x ns are))
     (ap (λ l. all_said (flat_map (details_said n) ns) (placed version keys vs g rs l outside)) (sym (append_assoc before (full n x ∷ []) (map (bare n) ns)))
-    ∙ (details_all n version keys vs g rs (before ++ full n x ∷ []) ns dated have.1 (still_apart before (full n x) (named ns) apart) parts.1 (all_rest (λ y. AreAttentions y.pending) x ns are)
+    ∙ (details_all n version keys vs g rs (before ++ full n x ∷ []) ns dated have.1 (still_apart before (full n x) (named ns) apart) parts.1 (All-tail (λ y. AreAttentions y.pending) x ns are)
     ∙ ap (λ l. Ok (placed version keys vs g rs l outside)) (append_assoc before (full n x ∷ []) (map (full n) ns))))
 
 -- ---- reservations
@@ -139,7 +135,7 @@ number_at n before (x ∷ ns) (suc h) apart below =
 held_goes : (n : ℕ) (ns : List Nexus) (v : Option Held) → are_distinct bytes_eq (named ns) ≡ true → is_reservation (length ns) v ≡ true
     → held_of (map (bare n) ns) (wanted_by ns v) ≡ Some v
 held_goes n ns (Some (One kind h)) apart fits =
-    let below = true_lt h (length ns) (and_parts (not (is_all kind)) _ fits).1 in
+    let below = ltb-true h (length ns) (and_parts (not (is_all kind)) _ fits).1 in
     ap (λ o. option_map (λ m. Some (One kind m)) o) (number_at n [] ns h apart below) ∙ ap (λ m. Some (Some (One kind m))) (omega arith)
 held_goes n ns _ apart h = refl
 
@@ -160,11 +156,7 @@ reservation_goes n version keys g rs ns vs apart fits once = rw (helds_go n ns v
 
 tasks_there : (n : ℕ) (ns : List Nexus) → first_unscripted (map (full n) ns) ≡ None
 tasks_there n [] = refl
-tasks_there n (x ∷ ns) = rw (never (not (is_planned x.task))) (tasks_there n ns)
-  where
-    never : (b : Bool) → (b && false) ≡ false
-    never true = refl
-    never false = refl
+tasks_there n (x ∷ ns) = rw (and-false (not (is_planned x.task))) (tasks_there n ns)
 
 starts_same : (n : ℕ) (ns : List Nexus) → map start_of (map (full n) ns) ≡ map (λ x. x.start) ns
 starts_same n [] = refl
@@ -182,8 +174,8 @@ ends n version keys g rs ns vs some startable = rw (some_there (full n) ns some,
 written_same : (n : ℕ) (ns : List Nexus) → All (λ x. AreAttentions x.pending) ns → map nexus_written ns ≡ map nexus_declared (map (full n) ns)
 written_same n [] are = refl
 written_same n (x ∷ ns) are =
-    ap (λ l. nexus_written x ∷ l) (written_same n ns (all_rest (λ y. AreAttentions y.pending) x ns are))
-    ∙ (ap (λ p. record (nexus_written x) { pending = p } ∷ map nexus_declared (map (full n) ns)) (sym (pending_same x.pending (all_first (λ y. AreAttentions y.pending) x ns are)))
+    ap (λ l. nexus_written x ∷ l) (written_same n ns (All-tail (λ y. AreAttentions y.pending) x ns are))
+    ∙ (ap (λ p. record (nexus_written x) { pending = p } ∷ map nexus_declared (map (full n) ns)) (sym (pending_same x.pending (All-head (λ y. AreAttentions y.pending) x ns are)))
     ∙ (ap (λ b. record (nexus_declared (full n x)) { busy = b; full = x.full } ∷ map nexus_declared (map (full n) ns)) (sym (count_same x.busy))
     ∙ ap (λ f. record (nexus_declared (full n x)) { full = f } ∷ map nexus_declared (map (full n) ns)) (sym (count_same x.full))))
 
@@ -199,7 +191,7 @@ said n s fits can are =
     let parts = and_parts (not (length s.nexuses == 0)) _ fits.nexuses in
     let few = and_parts (nat_le (length s.nexuses) (most_declared version)) _ parts.1 in
     let apart = and_parts (are_distinct bytes_eq (named s.nexuses)) _ few.1 in
-    let at_most = true_le (length s.nexuses) (most_declared version) few.0 in
+    let at_most = leb-true (length s.nexuses) (most_declared version) few.0 in
     let reserved = and_parts (list_all (is_reservation (length s.nexuses)) s.reservations) _ (and_parts (not (length s.reservations == 0)) _ fits.reservations).1 in
     let behind = line n (declares (reservation_line (map (wanted_by s.nexuses) s.reservations))) ∷ flat_map (details_said n) s.nexuses in
     let each : list_all (is_nexus (unwrap_or keys [])) s.nexuses ≡ true = rw (keys_same s.keys) apart.1 in

@@ -1,12 +1,13 @@
 -- The lines of a script that fits have no fault.
-use Rattle.pr_text.proofs.Common.{◌≡◌, ℕ, ◌+◌, ◌≤◌, Bool, true, false, not, ◌&&◌, List, [], ◌∷◌, ◌++◌, nat_lt, nat_le, ◌==◌, Ok, Err, count_by, Result, sym, refl, ap, ◌∙◌, append_assoc, append-nil, arith, list_all, and_parts, nat_tests, Command, is_written, test_fits, Stmt, Stmts, Arms, sends, repeats, none, more, no_arm, arm, breaks, stops, MOST_STATEMENTS, MOST_ARMS, MOST_OPEN, MOST_TURNS, Test, is_version, states, send_line, on_line, done_line, repeat_line, break_line, stop_line, both, true_le, Declared, OpenLines, OpenBlock, sending, declared_keys, and_then, begun_script, ScriptLine, arm_on, block_done, statement_lines, body_lines, arms_lines, send_at, repeat_of, break_out, stop_with, all_said, is_repeating, is_sending, awaits_arm, ReadError, item_standing, script_step, is_line_of}
+use Rattle.pr_text.proofs.Common.{◌≡◌, ℕ, ◌+◌, ◌≤◌, Bool, true, false, not, ◌&&◌, List, [], ◌∷◌, ◌++◌, nat_lt, nat_le, ◌==◌, Ok, Err, count_by, Result, sym, refl, ap, ◌∙◌, append_assoc, append-nil, arith, list_all, and_parts, nat_tests, Command, is_written, test_fits, Stmt, Stmts, Arms, sends, repeats, none, more, no_arm, arm, breaks, stops, MOST_STATEMENTS, MOST_ARMS, MOST_OPEN, MOST_TURNS, Test, is_version, states, send_line, on_line, done_line, repeat_line, break_line, stop_line, and_from, leb-true, Declared, OpenLines, OpenBlock, sending, declared_keys, and_then, begun_script, ScriptLine, arm_on, block_done, statement_lines, body_lines, arms_lines, send_at, repeat_of, break_out, stop_with, all_said, is_repeating, is_sending, awaits_arm, ReadError, item_standing, script_step, is_line_of, not-true}
+use Rattle.std.proofs.Common.{add_assoc}
 use Rattle.pr_script.specs.Grammar.{stands_under, is_test_declared, has_sense_digit, count_of_arms, begins_body, is_send_written, is_repeat_written, statement_fits, statements_fit, arms_fit, count_of, count_of_all, count_in_arms}
 use Rattle.pr_lines.specs.CommandWords.{without_keys}
 use Rattle.pr_text.specs.Declarations.{repeating}
 use Rattle.pr_text.specs.Standing.{is_in_repeat, may_close}
 use Rattle.pr_text.specs.inside.Chains.{all_stepped}
 use Rattle.pr_text.specs.ScriptRoundTrip.{ScriptsHaveNoFault, said_by, number_of_line, script_said, within}
-use Rattle.pr_text.proofs.lemmas.Sound.Trees.{no_not, one_more, as_many}
+use Rattle.pr_text.proofs.lemmas.Sound.Trees.{one_more, as_many}
 use Rattle.pr_text.proofs.lemmas.LineFaults.Order.{in_version}
 use Rattle.pr_text.proofs.lemmas.ScriptRoundTrip.Versions.{body_dated, has_line}
 
@@ -155,9 +156,6 @@ sum_least k a b h = omega arith
 sum_rest : (k a b : ℕ) → k + (a + b) ≤ MOST_STATEMENTS → (k + a) + b ≤ MOST_STATEMENTS
 sum_rest k a b h = omega arith
 
-sum_joined : (k a b : ℕ) → (k + a) + b ≡ k + (a + b)
-sum_joined k a b = omega arith
-
 from_none : (n m : ℕ) → n ≤ m → 0 + n ≤ m
 from_none n m h = omega arith
 
@@ -178,27 +176,27 @@ mutual
       (send_goes m keys c host budget ls k bs g stands.free written.0 (short_now k _ few) (shallow _ s stands.sends_are q.0))
       ∙ (ap (λ v. all_stepped n keys v (open_at host budget (ls ++ send_at m c ∷ []) (k + 1) (sending c 0 ∷ bs) false)) (append_assoc (arms_lines a) (block_done ∷ []) u)
       ∙ (arms_goes n keys host budget c a r s (block_done ∷ u) (ls ++ send_at m c ∷ []) (k + 1) 0 bs false q.1 stands.repeats_are stands.sends_are
-      (from_none (count_of_arms a) MOST_ARMS (true_le (count_of_arms a) MOST_ARMS written.1)) (sum_rest k 1 (count_in_arms a) few)
+      (from_none (count_of_arms a) MOST_ARMS (leb-true (count_of_arms a) MOST_ARMS written.1)) (sum_rest k 1 (count_in_arms a) few)
       ∙ (goes _ _ (all_stepped n keys u) (done_goes n keys host budget _ _ (sending c (0 + count_of_arms a)) bs _ refl)
-      ∙ ap (all_stepped n keys u) (same_at host budget _ _ _ _ bs bs true true (block_joined ls (send_at m c) (arms_lines a)) (sum_joined k 1 (count_in_arms a)) refl refl))))
+      ∙ ap (all_stepped n keys u) (same_at host budget _ _ _ _ bs bs true true (block_joined ls (send_at m c) (arms_lines a)) (add_assoc k 1 (count_in_arms a)) refl refl))))
   statement_goes n keys host budget (repeats count b) r s u ls k bs g fits stands begins few =
       let p = and_parts (is_repeat_written count b) _ fits in
       let written = and_parts (nat_le 1 count) _ p.0 in
       let body = and_parts (nat_le count MOST_TURNS) _ written.1 in
       let q = and_parts (nat_lt r MOST_OPEN) _ p.1 in
       goes _ _ (all_stepped n keys ((body_lines b ++ block_done ∷ []) ++ u))
-      (repeat_goes n keys count host budget ls k bs g stands.free (short_now k _ few) (shallow _ r stands.repeats_are q.0) (both _ _ written.0 body.0))
+      (repeat_goes n keys count host budget ls k bs g stands.free (short_now k _ few) (shallow _ r stands.repeats_are q.0) (and_from _ _ written.0 body.0))
       ∙ (ap (λ v. all_stepped n keys v (open_at host budget (ls ++ repeat_of count ∷ []) (k + 1) (repeating ∷ bs) false)) (append_assoc (body_lines b) (block_done ∷ []) u)
       ∙ (body_goes n keys host budget b (r + 1) s (block_done ∷ u) (ls ++ repeat_of count ∷ []) (k + 1) (repeating ∷ bs) false q.1 (stands_repeated r s bs stands)
       (follows_repeat b (repeating ∷ bs) false body.1) (sum_rest k 1 (count_of_all b) few)
       ∙ (goes _ _ (all_stepped n keys u) (done_goes n keys host budget _ _ repeating bs _ (begun_by b false body.1))
-      ∙ ap (all_stepped n keys u) (same_at host budget _ _ _ _ bs bs true true (block_joined ls (repeat_of count) (body_lines b)) (sum_joined k 1 (count_of_all b)) refl refl))))
+      ∙ ap (all_stepped n keys u) (same_at host budget _ _ _ _ bs bs true true (block_joined ls (repeat_of count) (body_lines b)) (add_assoc k 1 (count_of_all b)) refl refl))))
   statement_goes n keys host budget breaks r s u ls k bs g fits stands begins few =
       goes _ _ (all_stepped n keys u)
-      (break_goes n keys host budget ls k bs g stands.free (no_not _ begins) (inside _ r stands.repeats_are fits) (short_now k 0 few))
+      (break_goes n keys host budget ls k bs g stands.free (not-true _ begins) (inside _ r stands.repeats_are fits) (short_now k 0 few))
   statement_goes n keys host budget (stops w) r s u ls k bs g fits stands begins few =
       goes _ _ (all_stepped n keys u)
-      (stop_goes n keys w host budget ls k bs g stands.free (no_not _ begins) (short_now k 0 few))
+      (stop_goes n keys w host budget ls k bs g stands.free (not-true _ begins) (short_now k 0 few))
 
   body_goes : (n : ℕ) (keys : List ℕ) (host budget : ℕ) (b : Stmts) (r s : ℕ) (u ls : List ScriptLine) (k : ℕ) (bs : List OpenBlock) (g : Bool)
       → statements_fit keys r s b ≡ true → Stands r s bs → may_follow b bs g ≡ true → k + count_of_all b ≤ MOST_STATEMENTS
@@ -210,7 +208,7 @@ mutual
       ap (λ v. all_stepped n keys v (open_at host budget ls k bs g)) (append_assoc (statement_lines x) (body_lines rest) u)
       ∙ (statement_goes n keys host budget x r s (body_lines rest ++ u) ls k bs g p.0 stands follows (sum_least k (count_of x) (count_of_all rest) few)
       ∙ (body_goes n keys host budget rest r s u (ls ++ statement_lines x) (k + count_of x) bs true p.1 stands (follows_one rest bs) (sum_rest k (count_of x) (count_of_all rest) few)
-      ∙ ap (all_stepped n keys u) (same_at host budget _ _ _ _ bs bs _ true (append_assoc ls (statement_lines x) (body_lines rest)) (sum_joined k (count_of x) (count_of_all rest)) refl (begun_still rest))))
+      ∙ ap (all_stepped n keys u) (same_at host budget _ _ _ _ bs bs _ true (append_assoc ls (statement_lines x) (body_lines rest)) (add_assoc k (count_of x) (count_of_all rest)) refl (begun_still rest))))
 
   arms_goes : (n : ℕ) (keys : List ℕ) (host budget : ℕ) (c : Command) (a : Arms) (r s : ℕ) (u ls : List ScriptLine) (k j : ℕ) (bs : List OpenBlock) (g : Bool)
       → arms_fit keys r (s + 1) c a ≡ true → count_by is_repeating bs ≡ r → count_by is_sending bs ≡ s → j + count_of_arms a ≤ MOST_ARMS → k + count_in_arms a ≤ MOST_STATEMENTS
@@ -229,8 +227,8 @@ mutual
       (follows_in_arm b c (j + 1) bs false) (sum_least k (count_of_all b) (count_in_arms rest) few)
       ∙ (arms_goes n keys host budget c rest r s u ((ls ++ arm_on t ∷ []) ++ body_lines b) (k + count_of_all b) (j + 1) bs (begun_after b false) p.1 repeated sent
       (arms_rest j (count_of_arms rest) arms) (sum_rest k (count_of_all b) (count_in_arms rest) few)
-      ∙ ap (all_stepped n keys u) (same_at host budget _ _ _ _ _ _ _ _ (arms_joined ls (arm_on t) (body_lines b) (arms_lines rest)) (sum_joined k (count_of_all b) (count_in_arms rest))
-      (same_arms c _ _ bs (sum_joined j 1 (count_of_arms rest))) refl))))
+      ∙ ap (all_stepped n keys u) (same_at host budget _ _ _ _ _ _ _ _ (arms_joined ls (arm_on t) (body_lines b) (arms_lines rest)) (add_assoc k (count_of_all b) (count_in_arms rest))
+      (same_arms c _ _ bs (add_assoc j 1 (count_of_arms rest))) refl))))
 
 -- ---- a whole script
 
@@ -262,7 +260,7 @@ reread n d host budget b known has fits =
     let script = open_at host budget (body_lines b) (0 + count_of_all b) [] (begun_after b false) in
     let steps : all_stepped n keys (body_lines b) (begun_script host budget) ≡ Ok script =
     ap (λ ls. all_stepped n keys ls (open_at host budget [] 0 [] false)) (sym (append-nil (body_lines b)))
-    ∙ body_goes n keys host budget b 0 0 [] [] 0 [] false p.0 (record { repeats_are = refl; sends_are = refl; free = refl }) (follows_first b) (from_none (count_of_all b) MOST_STATEMENTS (true_le (count_of_all b) MOST_STATEMENTS q.0)) in
+    ∙ body_goes n keys host budget b 0 0 [] [] 0 [] false p.0 (record { repeats_are = refl; sends_are = refl; free = refl }) (follows_first b) (from_none (count_of_all b) MOST_STATEMENTS (leb-true (count_of_all b) MOST_STATEMENTS q.0)) in
     record {
       script = script;
       stepped = all_step n d (body_lines b) (begun_script host budget) known (body_dated d.version b ∙ has) ∙ goes _ script (λ o. Ok (within d o)) steps;

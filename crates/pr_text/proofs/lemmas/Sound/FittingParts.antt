@@ -1,5 +1,5 @@
 -- What is declared fits.
-use Rattle.pr_text.proofs.Common.{◌≡◌, ℕ, Bool, true, false, cond, not, ◌&&◌, List, [], ◌∷◌, map, length, nat_le, ◌==◌, Some, None, Option, sym, refl, ap, ◌∙◌, subst, list_all, unwrap_or, and_parts, is_name, Fits, is_version, is_count, are_resets, most_declared, is_role, is_start, is_nexus, Scenario, Nexus, Task, Scripted, Planned, both, Declared, WrittenTask, scripted, planned, Declaration, Context, before_all, outside, in_script, in_plan, declared_keys, nexus_written, nexus_declared, IsDeclaredBy, task_written, body_lines, missing_fault, IsDated, IsTask, IsDeclaration, AreDeclarations, IsSound}
+use Rattle.pr_text.proofs.Common.{◌≡◌, ℕ, Bool, true, false, cond, not, ◌&&◌, List, [], ◌∷◌, map, length, nat_le, ◌==◌, Some, None, Option, sym, refl, ap, ◌∙◌, subst, list_all, unwrap_or, and_parts, is_name, Fits, is_version, is_count, are_resets, most_declared, is_role, is_start, is_nexus, Scenario, Nexus, Task, Scripted, Planned, and_from, Declared, WrittenTask, scripted, planned, Declaration, Context, before_all, outside, in_script, in_plan, declared_keys, nexus_written, nexus_declared, IsDeclaredBy, task_written, body_lines, missing_fault, IsDated, IsTask, IsDeclaration, AreDeclarations, IsSound}
 use Rattle.std.proofs.lemmas.List.{length-map}
 use Rattle.std.proofs.lemmas.Simd.{map-map}
 use Rattle.pr_roles.specs.Fitting.{is_task, is_task_of, are_of}
@@ -14,7 +14,7 @@ use Rattle.pr_text.proofs.lemmas.ScriptRoundTrip.Versions.{body_dated}
 task_known : (keys : List ℕ) (t : Task) (w : WrittenTask) → task_written t ≡ w → IsTask keys (Some w) → is_task keys t ≡ true
 task_known keys (Scripted b budget) w e h =
     let known : IsTask keys (Some (scripted (body_lines b) budget)) = subst (λ v. IsTask keys (Some v)) (sym e) h in
-    both _ _ (whole_fits keys b known.0) known.1
+    and_from _ _ (whole_fits keys b known.0) known.1
 task_known keys (Planned commands) w e h = subst (λ v. IsTask keys (Some v)) (sym e) h
 
 task_fits : (keys : List ℕ) (t : Task) (o : Option WrittenTask) → task_written t ≡ unwrap_or o (planned []) → IsTask keys o → is_task keys t ≡ true
@@ -25,9 +25,9 @@ nexus_fits : (keys : List ℕ) (n : Nexus) (x : Declaration) → nexus_written n
 nexus_fits keys n x e h =
     let described = and_parts (is_name x.name) _ h.described in
     let rest = and_parts (is_role keys x.role) _ described.1 in
-    both _ _ (ap (λ w. is_name w.name) e ∙ described.0) (
-    both _ _ (ap (λ w. is_role keys w.role) e ∙ rest.0) (
-    both _ _ (ap (λ w. is_start keys w.start) e ∙ rest.1) (task_fits keys n.task x.task (ap (λ w. w.task) e) h.task)))
+    and_from _ _ (ap (λ w. is_name w.name) e ∙ described.0) (
+    and_from _ _ (ap (λ w. is_role keys w.role) e ∙ rest.0) (
+    and_from _ _ (ap (λ w. is_start keys w.start) e ∙ rest.1) (task_fits keys n.task x.task (ap (λ w. w.task) e) h.task)))
 
 -- ---- its version
 
@@ -43,8 +43,8 @@ nexus_has : (v : ℕ) (n : Nexus) (x : Declaration) → nexus_written n ≡ nexu
 nexus_has v n x e h =
     let parts = and_parts (is_count v (unwrap_or x.busy 0)) _ h in
     let rest = and_parts (is_count v (unwrap_or x.full 0)) _ parts.1 in
-    both _ _ (ap (λ w. is_count v w.busy) e ∙ parts.0) (
-    both _ _ (ap (λ w. is_count v w.full) e ∙ rest.0) (task_has v n.task x.task (ap (λ w. w.task) e) rest.1))
+    and_from _ _ (ap (λ w. is_count v w.busy) e ∙ parts.0) (
+    and_from _ _ (ap (λ w. is_count v w.full) e ∙ rest.0) (task_has v n.task x.task (ap (λ w. w.task) e) rest.1))
 
 -- ---- all of them
 
@@ -52,14 +52,14 @@ each_fits : (keys : List ℕ) (ns : List Nexus) (xs : List Declaration) → map 
 each_fits keys [] xs e h = refl
 each_fits keys (n ∷ ns) [] e h = cc
 each_fits keys (n ∷ ns) (x ∷ xs) e h =
-    both _ _ (nexus_fits keys n x (head_same _ _ _ _ e) h.0) (each_fits keys ns xs (tail_same _ _ _ _ e) h.1)
+    and_from _ _ (nexus_fits keys n x (head_same _ _ _ _ e) h.0) (each_fits keys ns xs (tail_same _ _ _ _ e) h.1)
 
 each_has : (v : ℕ) (ns : List Nexus) (xs : List Declaration) → map nexus_written ns ≡ map nexus_declared xs → list_all (is_declared_of v) xs ≡ true → are_of v ns ≡ true
 each_has v [] xs e h = refl
 each_has v (n ∷ ns) [] e h = cc
 each_has v (n ∷ ns) (x ∷ xs) e h =
     let parts = and_parts (is_declared_of v x) _ h in
-    both _ _ (nexus_has v n x (head_same _ _ _ _ e) parts.0) (each_has v ns xs (tail_same _ _ _ _ e) parts.1)
+    and_from _ _ (nexus_has v n x (head_same _ _ _ _ e) parts.0) (each_has v ns xs (tail_same _ _ _ _ e) parts.1)
 
 -- ---- the whole
 
@@ -87,7 +87,7 @@ declared_fits n d s sound dated faultless kept =
       keys = rw keys sound.keys;
       reservations = rw (kept.reservations, long) sound.reservations;
       nexuses = rw (long, named, keys) (
-          both _ _ (some_nexus n d d.place faultless) (
-          both _ _ few (
-          both _ _ sound.apart (each_fits (declared_keys d) s.nexuses d.nexuses kept.nexuses sound.each))));
+          and_from _ _ (some_nexus n d d.place faultless) (
+          and_from _ _ few (
+          and_from _ _ sound.apart (each_fits (declared_keys d) s.nexuses d.nexuses kept.nexuses sound.each))));
     }

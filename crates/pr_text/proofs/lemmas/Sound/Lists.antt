@@ -1,5 +1,6 @@
 -- Keys, nexuses, and reservations stay sound with one line more.
-use Rattle.pr_text.proofs.Common.{◌≡◌, ℕ, suc, ◌+◌, ◌<◌, Bool, true, false, cond, not, ◌&&◌, ◌||◌, List, [], ◌∷◌, ◌++◌, map, length, is_some, nat_lt, nat_le, ◌==◌, Some, None, Ok, Option, option_map, position, option_and_then, bytes_eq, sym, refl, ap, ◌∙◌, subst, arith, length-append, list_all, list_any, position_from, unwrap_or, and_parts, false≢true, nat_tests, position_from-zero, Command, Held, is_written, test_fits, is_name, Test, are_distinct, is_action, is_role, is_start, MOST_CLAUSES, MOST_PLANNED, Clause, each, both, Declared, WrittenTask, scripted, planned, Declaration, outside, OpenBlock, sending, declared_keys, held_of, number_of, ScriptLine, arm_on, send_at, awaits_arm, start_of, keys_placed, nexus_placed, reservation_placed, IsTask, IsDeclaration, AreDeclarations, IsSound, Reached, may, may_all, IsPlace}
+use Rattle.pr_text.proofs.Common.{◌≡◌, ℕ, suc, ◌+◌, ◌<◌, Bool, true, false, cond, not, ◌&&◌, ◌||◌, List, [], ◌∷◌, ◌++◌, map, length, is_some, nat_lt, nat_le, ◌==◌, Some, None, Ok, Option, option_map, position, option_and_then, bytes_eq, sym, refl, ap, ◌∙◌, subst, arith, length-append, list_all, list_any, position_from, unwrap_or, and_parts, false≢true, nat_tests, position_from-zero, Command, Held, is_written, test_fits, is_name, Test, are_distinct, is_action, is_role, is_start, MOST_CLAUSES, MOST_PLANNED, Clause, each, and_from, Declared, WrittenTask, scripted, planned, Declaration, outside, OpenBlock, sending, declared_keys, held_of, number_of, ScriptLine, arm_on, send_at, awaits_arm, start_of, keys_placed, nexus_placed, reservation_placed, IsTask, IsDeclaration, AreDeclarations, IsSound, Reached, may, may_all, IsPlace, not-false, or_parts}
+use Rattle.std.proofs.lemmas.Bool.{false_from_ne_true, lt-ltb}
 use Rattle.std.proofs.lemmas.List.Sums.{AllPass-from_list_all}
 use Rattle.std.proofs.lemmas.Slice.Eq.{bytes_eq-Decides}
 use Rattle.pr_cdb.specs.declared.command.Kind.{Kind}
@@ -17,11 +18,11 @@ use Rattle.pr_text.specs.inside.Chains.{reservations_at}
 use Rattle.pr_text.specs.Texts.{reservations_of}
 use Rattle.pr_text.specs.inside.Sound.{at_first, may_arm, next}
 use Rattle.pr_lines.proofs.lemmas.ScenarioLines.Terms.{is_key, is_wanted}
-use Rattle.pr_text.proofs.lemmas.Sound.Scripts.{ok_same, past, not_no, or_no, lt_true}
+use Rattle.pr_text.proofs.lemmas.Sound.Scripts.{ok_same, past}
 
 all_more : {A : Type 0} (p q : A → Bool) → ((x : A) → p x ≡ true → q x ≡ true) → (xs : List A) → list_all p xs ≡ true → list_all q xs ≡ true
 all_more p q each [] h = refl
-all_more p q each (x ∷ xs) h = let parts = and_parts (p x) _ h in both _ _ (each x parts.0) (all_more p q each xs parts.1)
+all_more p q each (x ∷ xs) h = let parts = and_parts (p x) _ h in and_from _ _ (each x parts.0) (all_more p q each xs parts.1)
 
 -- ---- what holds without keys holds under any
 
@@ -34,13 +35,13 @@ module _ (keys : List ℕ) where
   written_key k h = or_more (k == 0) (is_declared keys k) h
 
   two_keys : (j k : ℕ) → (is_written_key [] j && is_written_key [] k) ≡ true → (is_written_key keys j && is_written_key keys k) ≡ true
-  two_keys j k h = let parts = and_parts (is_written_key [] j) _ h in both _ _ (written_key j parts.0) (written_key k parts.1)
+  two_keys j k h = let parts = and_parts (is_written_key [] j) _ h in and_from _ _ (written_key j parts.0) (written_key k parts.1)
 
   preempt_keys : (j k : ℕ) (b : Bool) → (is_written_key [] j && (is_written_key [] k && b)) ≡ true → (is_written_key keys j && (is_written_key keys k && b)) ≡ true
   preempt_keys j k b h =
       let parts = and_parts (is_written_key [] j) _ h in
       let rest = and_parts (is_written_key [] k) _ parts.1 in
-      both _ _ (written_key j parts.0) (both _ _ (written_key k rest.0) rest.1)
+      and_from _ _ (written_key j parts.0) (and_from _ _ (written_key k rest.0) rest.1)
 
   written_more : (c : Command) → is_written [] c ≡ true → is_written keys c ≡ true
   written_more (command.ReadKeys alloc) h = h
@@ -57,31 +58,31 @@ module _ (keys : List ℕ) where
 
   test_more : (c : Command) (t : Test) → test_fits [] c t ≡ true → test_fits keys c t ≡ true
   test_more c (test.GoodHas key) h = absurd (false≢true (and_parts (is_read_keys c) _ h).1)
-  test_more c (test.GoodHeld key) h = let parts = and_parts (is_read_reservation c) _ h in both _ _ parts.0 (written_key key parts.1)
+  test_more c (test.GoodHeld key) h = let parts = and_parts (is_read_reservation c) _ h in and_from _ _ parts.0 (written_key key parts.1)
   test_more c test.GoodUnheld h = h
   test_more c (test.Sense sense) h = h
   test_more c _ h = refl
 
   arm_more : (t : Test) (bs : List OpenBlock) → may_arm [] t bs ≡ true → may_arm keys t bs ≡ true
-  arm_more t ((sending c arms) ∷ bs) h = let parts = and_parts (test_fits [] c t) _ h in both _ _ (test_more c t parts.0) parts.1
+  arm_more t ((sending c arms) ∷ bs) h = let parts = and_parts (test_fits [] c t) _ h in and_from _ _ (test_more c t parts.0) parts.1
   arm_more t _ h = h
 
   line_more : (s : Reached) (l : ScriptLine) → may [] s l ≡ true → may keys s l ≡ true
   line_more s (send_at n c) h =
       let parts = and_parts (not (awaits_arm s.blocks)) _ h in
       let rest = and_parts (is_written [] c) _ parts.1 in
-      both _ _ parts.0 (both _ _ (written_more c rest.0) rest.1)
+      and_from _ _ parts.0 (and_from _ _ (written_more c rest.0) rest.1)
   line_more s (arm_on t) h = arm_more t s.blocks h
   line_more s _ h = h
 
   lines_more : (s : Reached) (ls : List ScriptLine) → may_all [] s ls ≡ true → may_all keys s ls ≡ true
   lines_more s [] h = refl
-  lines_more s (l ∷ ls) h = let parts = and_parts (may [] s l) _ h in both _ _ (line_more s l parts.0) (lines_more (next s l) ls parts.1)
+  lines_more s (l ∷ ls) h = let parts = and_parts (may [] s l) _ h in and_from _ _ (line_more s l parts.0) (lines_more (next s l) ls parts.1)
 
   task_more : (o : Option WrittenTask) → IsTask [] o → IsTask keys o
   task_more None h = tt
   task_more (Some (scripted ls budget)) h = (record { standing = lines_more at_first ls h.0.standing; short = h.0.short; rising = h.0.rising }, h.1)
-  task_more (Some (planned commands)) h = let parts = and_parts (nat_le (length commands) MOST_PLANNED) _ h in both _ _ parts.0 (all_more (is_written []) (is_written keys) written_more commands parts.1)
+  task_more (Some (planned commands)) h = let parts = and_parts (nat_le (length commands) MOST_PLANNED) _ h in and_from _ _ parts.0 (all_more (is_written []) (is_written keys) written_more commands parts.1)
 
   action_more : (a : Action) → is_action [] a ≡ true → is_action keys a ≡ true
   action_more (action.Register key) h = cc
@@ -95,20 +96,20 @@ module _ (keys : List ℕ) where
   role_more : (clauses : List Clause) → is_role [] clauses ≡ true → is_role keys clauses ≡ true
   role_more clauses h =
       let parts = and_parts (nat_le (length clauses) MOST_CLAUSES) _ h in
-      both _ _ parts.0 (all_more (λ c. is_action [] c.action) (λ c. is_action keys c.action) (λ c k. action_more c.action k) clauses parts.1)
+      and_from _ _ parts.0 (all_more (λ c. is_action [] c.action) (λ c. is_action keys c.action) (λ c k. action_more c.action k) clauses parts.1)
 
   start_more : (xs : List (Option ℕ)) → is_start [] xs ≡ true → is_start keys xs ≡ true
   start_more xs h =
       let parts = and_parts (not (length xs == 0)) _ h in
       let rest = and_parts (list_all (is_alternative []) xs) _ parts.1 in
-      both _ _ parts.0 (both _ _ (all_more (is_alternative []) (is_alternative keys) alternative_more xs rest.0) rest.1)
+      and_from _ _ parts.0 (and_from _ _ (all_more (is_alternative []) (is_alternative keys) alternative_more xs rest.0) rest.1)
 
   declarations_more : (xs : List Declaration) → AreDeclarations [] xs → AreDeclarations keys xs
   declarations_more [] h = tt
   declarations_more (x ∷ xs) h =
       let parts = and_parts (is_name x.name) _ h.0.described in
       let rest = and_parts (is_role [] x.role) _ parts.1 in
-      (record { described = both _ _ parts.0 (both _ _ (role_more x.role rest.0) (start_more (start_of x) rest.1)); task = task_more x.task h.0.task }, declarations_more xs h.1)
+      (record { described = and_from _ _ parts.0 (and_from _ _ (role_more x.role rest.0) (start_more (start_of x) rest.1)); task = task_more x.task h.0.task }, declarations_more xs h.1)
 
 key_is : (k : ℕ) → is_key k ≡ true → IsKey k
 key_is k h = grind (arith, nat_tests)
@@ -125,13 +126,13 @@ unfolding keys_placed
 keys_sound n keys d e at sound h r =
     let a = past _ _ _ e r in
     let b = past _ _ _ e a.1 in
-    let parts = or_no (is_some d.keys) _ a.0 in
+    let parts = or_parts (is_some d.keys) _ a.0 in
     let same : record d { keys = Some keys } ≡ e = ok_same _ _ b.1 in
     let before : declared_keys d ≡ [] = ap (λ o. unwrap_or o []) (none_of d.keys parts.0) in
     subst (IsSound (n + 1)) same (record {
       keys = record {
         each = λ k x below. key_is _ (AllPass-from_list_all is_key keys sound k x below);
-        once = both _ _ (few_keys (length keys) b.0) (not_no _ parts.1);
+        once = and_from _ _ (few_keys (length keys) b.0) (not-false _ parts.1);
       };
       reservations = h.reservations;
       apart = h.apart;
@@ -159,10 +160,6 @@ from_none : {A : Type 0} (p : A → Bool) (xs : List A) (n : ℕ) → position_f
 from_none p [] n e = refl
 from_none p (x ∷ xs) n e = found_none p (p x) n xs (λ m. from_none p xs m) e
 
-not_true : (b : Bool) → (b ≡ true → ⊥) → b ≡ false
-not_true true h = absurd (h refl)
-not_true false h = refl
-
 number_within : (xs : List Declaration) (name : List ℕ) (h : ℕ) → number_of xs name ≡ Some h → h < length xs
 unfolding number_of
 number_within xs name h e =
@@ -170,26 +167,22 @@ number_within xs name h e =
     let below = from_within p h xs 0 (sym (position_from-zero p xs) ∙ e) in
     omega arith
 
-none_there : {A : Type 0} (o : Option A) → is_some o ≡ false → o ≡ None
-none_there None e = refl
-none_there (Some x) e = cc
-
 number_none : (xs : List Declaration) (name : List ℕ) → is_some (number_of xs name) ≡ false → list_any (λ x. bytes_eq x.name name) xs ≡ false
 unfolding number_of
 number_none xs name e =
     let p : Declaration → Bool = λ x. bytes_eq x.name name in
-    from_none p xs 0 (sym (position_from-zero p xs) ∙ none_there (position p xs) e)
+    from_none p xs 0 (sym (position_from-zero p xs) ∙ none_of (position p xs) e)
 
 -- ---- nexuses
 
 pub other_way : (xs ys : List ℕ) → bytes_eq xs ys ≡ false → bytes_eq ys xs ≡ false
-other_way xs ys e = not_true (bytes_eq ys xs) (λ h. false≢true (sym e ∙ (bytes_eq-Decides xs ys).1 (sym ((bytes_eq-Decides ys xs).0 h))))
+other_way xs ys e = false_from_ne_true (bytes_eq ys xs) (λ h. false≢true (sym e ∙ (bytes_eq-Decides xs ys).1 (sym ((bytes_eq-Decides ys xs).0 h))))
 
 no_other : (xs : List Declaration) (x y : Declaration) → list_any (λ z. bytes_eq z y.name) (map (λ w. w.name) xs) ≡ false → bytes_eq x.name y.name ≡ false
     → not (list_any (λ z. bytes_eq z y.name) (map (λ w. w.name) (xs ++ x ∷ []))) ≡ true
 no_other [] x y h e = rw e refl
 no_other (z ∷ xs) x y h e =
-    let parts = or_no (bytes_eq z.name y.name) _ h in
+    let parts = or_parts (bytes_eq z.name y.name) _ h in
     rw parts.0 (no_other xs x y parts.1 e)
 
 names_more : (xs : List Declaration) (x : Declaration) → are_distinct bytes_eq (map (λ y. y.name) xs) ≡ true → list_any (λ y. bytes_eq y.name x.name) xs ≡ false
@@ -197,22 +190,22 @@ names_more : (xs : List Declaration) (x : Declaration) → are_distinct bytes_eq
 names_more [] x h fresh = refl
 names_more (y ∷ xs) x h fresh =
     let parts = and_parts (not (list_any (λ z. bytes_eq z y.name) (map (λ w. w.name) xs))) _ h in
-    let news = or_no (bytes_eq y.name x.name) _ fresh in
-    both _ _ (no_other xs x y (not_true _ (λ k. false≢true (sym (ap not k) ∙ parts.0))) (other_way y.name x.name news.0)) (names_more xs x parts.1 news.1)
+    let news = or_parts (bytes_eq y.name x.name) _ fresh in
+    and_from _ _ (no_other xs x y (false_from_ne_true _ (λ k. false≢true (sym (ap not k) ∙ parts.0))) (other_way y.name x.name news.0)) (names_more xs x parts.1 news.1)
 
 lt_more : (h n : ℕ) → nat_lt h n ≡ true → nat_lt h (n + 1) ≡ true
 lt_more h n e = grind (arith, nat_tests)
 
 held_more : (n : ℕ) (v : Option Held) → is_reservation n v ≡ true → is_reservation (n + 1) v ≡ true
 held_more n None h = refl
-held_more n (Some (One kind g)) h = let parts = and_parts (not (is_all kind)) _ h in both _ _ parts.0 (lt_more g n parts.1)
+held_more n (Some (One kind g)) h = let parts = and_parts (not (is_all kind)) _ h in and_from _ _ parts.0 (lt_more g n parts.1)
 held_more n (Some (Everybody kind)) h = h
 
 reservations_more : (vs : List (Option Held)) (n : ℕ) → are_reservations n vs ≡ true → are_reservations (n + 1) vs ≡ true
 reservations_more vs n h =
     let parts = and_parts (not (length vs == 0)) _ h in
     let rest = and_parts (list_all (is_reservation n) vs) _ parts.1 in
-    both _ _ parts.0 (both _ _ (all_more (is_reservation n) (is_reservation (n + 1)) (held_more n) vs rest.0) rest.1)
+    and_from _ _ parts.0 (and_from _ _ (all_more (is_reservation n) (is_reservation (n + 1)) (held_more n) vs rest.0) rest.1)
 
 declarations_with : (keys : List ℕ) (xs : List Declaration) (x : Declaration) → AreDeclarations keys xs → IsDeclaration keys x → AreDeclarations keys (xs ++ x ∷ [])
 declarations_with keys [] x all is = (is, tt)
@@ -236,7 +229,7 @@ nexus_sound n guest name d e at named h r =
       keys = h.keys;
       reservations = rw (one_long d.nexuses x) (reservations_more (reservations_of d) (length d.nexuses) h.reservations);
       apart = names_more d.nexuses x h.apart fresh;
-      each = declarations_with (declared_keys d) d.nexuses x h.each (record { described = both _ _ named refl; task = tt });
+      each = declarations_with (declared_keys d) d.nexuses x h.each (record { described = and_from _ _ named refl; task = tt });
       place = subst (IsPlace (declared_keys d) (n + 1)) (sym at) tt;
     })
 
@@ -247,7 +240,7 @@ held_by : (xs : List Declaration) (kind : Kind) (name : List ℕ) (o : Option �
 held_by xs kind name None v is s e = cc
 held_by xs kind name (Some h) v is s e =
     let same : ◌≡◌ {A = Option Held} (Some (One kind h)) v = cc in
-    subst (λ x. is_reservation (length xs) x ≡ true) same (both _ _ s (lt_true h (length xs) (number_within xs name h is)))
+    subst (λ x. is_reservation (length xs) x ≡ true) same (and_from _ _ s (lt-ltb h (length xs) (number_within xs name h is)))
 
 held_sound : (xs : List Declaration) (w : StartReservation) (v : Option Held) → is_wanted w ≡ true → held_of xs w ≡ Some v → is_reservation (length xs) v ≡ true
 held_sound xs nobody None s e = refl
@@ -262,7 +255,7 @@ helds_then : (xs : List Declaration) (w : StartReservation) (ws : List StartRese
 helds_then xs w ws us (Some v) (Some vs) is s later e =
     let same : v ∷ vs ≡ us = cc in
     let rest = later vs refl in (
-      subst (λ ys. list_all (is_reservation (length xs)) ys ≡ true) same (both _ _ (held_sound xs w v s is) rest.0),
+      subst (λ ys. list_all (is_reservation (length xs)) ys ≡ true) same (and_from _ _ (held_sound xs w v s is) rest.0),
       subst (λ ys. length ys ≡ length (w ∷ ws)) same (omega (arith, rest.1)),
     )
 helds_then xs w ws us _ _ is s later e = cc
@@ -285,10 +278,10 @@ placed_helds n ws d e (Some vs) at s h is r =
     let same : record d { reservations = Some vs } ≡ e = ok_same _ _ a.1 in
     let wanted = and_parts (not (length ws == 0)) _ s in
     let held = helds_sound d.nexuses ws vs wanted.1 is in
-    let apart = (or_no (is_some d.reservations) _ a.0).1 in
+    let apart = (or_parts (is_some d.reservations) _ a.0).1 in
     subst (IsSound (n + 1)) same (record {
       keys = h.keys;
-      reservations = both _ _ (some_held (length vs) (length ws) held.1 wanted.0) (both _ _ held.0 (not_no _ apart));
+      reservations = and_from _ _ (some_held (length vs) (length ws) held.1 wanted.0) (and_from _ _ held.0 (not-false _ apart));
       apart = h.apart;
       each = h.each;
       place = subst (IsPlace (declared_keys d) (n + 1)) (sym at) tt;

@@ -1,5 +1,5 @@
 -- What is declared stays sound with one line more.
-use Rattle.pr_text.proofs.Common.{◌≡◌, ℕ, zero, suc, ◌+◌, ◌≤◌, true, false, cond, not, ◌&&◌, List, [], ◌∷◌, ◌++◌, map, length, is_some, nat_le, ◌==◌, slice_set, Some, None, Ok, Err, Option, Result, sym, refl, ap, ◌∙◌, subst, arith, length-append, slice_get, and_parts, nat_tests, list_all-append, Command, Attention, is_written, is_name, MOST_BUDGET, is_action, is_role, MOST_CLAUSES, MOST_PLANNED, MOST_REFUSALS, MOST_RESETS, Clause, states, ScenarioLine, DeclaringLine, fence_line, declares, nexus_line, start_line, pending_line, refusals_line, resets_line, role_line, script_line, plan_line, end_line, command_line, keys_line, reservation_line, generation_line, RefusalKind, ParsedCommand, is_item, both, Declared, WrittenTask, scripted, planned, Declaration, OpenLines, Context, before_all, outside, in_script, in_plan, codes_of, count_in, declared_keys, number_of, and_then, with_count, with_task, begun_script, item_placed, ReadError, start_fault, start_placed, pending_placed, refusals_placed, role_placed, script_placed, plan_placed, planned_step, item_standing, script_step, generation_placed, resets_placed, IsTask, IsDeclaration, AreDeclarations, IsSound, IsPlace}
+use Rattle.pr_text.proofs.Common.{◌≡◌, ℕ, zero, suc, ◌+◌, ◌≤◌, true, false, cond, not, ◌&&◌, List, [], ◌∷◌, ◌++◌, map, length, is_some, nat_le, ◌==◌, slice_set, Some, None, Ok, Err, Option, Result, sym, refl, ap, ◌∙◌, subst, arith, length-append, slice_get, and_parts, nat_tests, list_all-append, Command, Attention, is_written, is_name, MOST_BUDGET, is_action, is_role, MOST_CLAUSES, MOST_PLANNED, MOST_REFUSALS, MOST_RESETS, Clause, states, ScenarioLine, DeclaringLine, fence_line, declares, nexus_line, start_line, pending_line, refusals_line, resets_line, role_line, script_line, plan_line, end_line, command_line, keys_line, reservation_line, generation_line, RefusalKind, ParsedCommand, is_item, and_from, Declared, WrittenTask, scripted, planned, Declaration, OpenLines, Context, before_all, outside, in_script, in_plan, codes_of, count_in, declared_keys, number_of, and_then, with_count, with_task, begun_script, item_placed, ReadError, start_fault, start_placed, pending_placed, refusals_placed, role_placed, script_placed, plan_placed, planned_step, item_standing, script_step, generation_placed, resets_placed, IsTask, IsDeclaration, AreDeclarations, IsSound, IsPlace, le-leb, not-false, or_parts}
 use Rattle.std.proofs.lemmas.List.{length-set}
 use Rattle.pr_lines.specs.declared.item.RefusalKind.TheVariants as refusal
 use Rattle.pr_text.specs.declared.fault.Which.TheVariants as which
@@ -8,8 +8,7 @@ use Rattle.pr_text.specs.LineFaults.{limit_of, command_fault}
 use Rattle.pr_text.specs.inside.Chains.{declared_with, nexus_set, on_nexus, at_number, at_name, start_at, pending_at, refusals_at, role_at, script_fault, script_at, plan_at, placed_first, placed_outside, script_ended, placed_in_script, placed_in_plan, placed_at, item_taken}
 use Rattle.pr_text.specs.Declaring.{is_spelled}
 use Rattle.pr_text.specs.inside.Sound.{AreBegun, is_plan}
-use Rattle.pr_text.proofs.lemmas.Sound.Trees.{le_true}
-use Rattle.pr_text.proofs.lemmas.Sound.Scripts.{faultless, ok_same, past, not_no, or_no, kept, passes, skips, script_sound}
+use Rattle.pr_text.proofs.lemmas.Sound.Scripts.{faultless, ok_same, past, kept, passes, skips, script_sound}
 use Rattle.pr_text.proofs.lemmas.Sound.Lists.{keys_sound, nexus_sound, reservation_sound}
 use Rattle.pr_text.proofs.lemmas.LineFaults.Order.{in_order}
 
@@ -79,9 +78,9 @@ start_sound n name xs d e at some sound r =
     let was = declaration_at keys d.nexuses m.number x m.there sound.each in
     let parts = and_parts (is_name x.name) _ was.described in
     let role = and_parts (is_role keys x.role) _ parts.1 in
-    let starts = both _ _ some (both _ _ (not_no _ b.0) (not_no _ (or_no (is_some x.start) _ c.0).1)) in
+    let starts = and_from _ _ some (and_from _ _ (not-false _ b.0) (not-false _ (or_parts (is_some x.start) _ c.0).1)) in
     subst (IsSound (n + 1)) a.1 (changed n d m.number x (record x { start = Some xs }) d.place sound m.there refl
-    (record { described = both _ _ parts.0 (both _ _ role.0 starts); task = was.task }) (subst (IsPlace keys (n + 1)) (sym at) tt))
+    (record { described = and_from _ _ parts.0 (and_from _ _ role.0 starts); task = was.task }) (subst (IsPlace keys (n + 1)) (sym at) tt))
 
 pending_sound : (n : ℕ) (name : List ℕ) (xs : List Attention) (d e : Declared) → d.place ≡ outside → IsSound n d → pending_placed (n + 1) name xs d ≡ Ok e → IsSound (n + 1) e
 unfolding pending_placed
@@ -125,8 +124,8 @@ refusals_sound n r name count d e at sound q =
 role_more : (keys : List ℕ) (clauses : List Clause) (c : Clause) → is_role keys clauses ≡ true → is_action keys c.action ≡ true → nat_le MOST_CLAUSES (length clauses) ≡ false → is_role keys (clauses ++ c ∷ []) ≡ true
 role_more keys clauses c h k few =
     let parts = and_parts (nat_le (length clauses) MOST_CLAUSES) _ h in
-    both _ _ (le_true (length (clauses ++ c ∷ [])) MOST_CLAUSES (omega (arith, length-append clauses (c ∷ []), few_more (length clauses) few)))
-    (list_all-append (λ clause. is_action keys clause.action) clauses (c ∷ []) ∙ both _ _ parts.1 (both _ _ k refl))
+    and_from _ _ (le-leb (length (clauses ++ c ∷ [])) MOST_CLAUSES (omega (arith, length-append clauses (c ∷ []), few_more (length clauses) few)))
+    (list_all-append (λ clause. is_action keys clause.action) clauses (c ∷ []) ∙ and_from _ _ parts.1 (and_from _ _ k refl))
 
 role_sound : (n : ℕ) (name : List ℕ) (clause : Clause) (d e : Declared) → d.place ≡ outside → IsSound n d → role_placed (n + 1) name clause d ≡ Ok e → IsSound (n + 1) e
 unfolding role_placed
@@ -140,9 +139,9 @@ role_sound n name clause d e at sound r =
     let was = declaration_at keys d.nexuses m.number x m.there sound.each in
     let parts = and_parts (is_name x.name) _ was.described in
     let role = and_parts (is_role keys x.role) _ parts.1 in
-    let more = role_more keys x.role clause role.0 (not_no _ a.0) b.0 in
+    let more = role_more keys x.role clause role.0 (not-false _ a.0) b.0 in
     subst (IsSound (n + 1)) same (changed n d m.number x (record x { role = x.role ++ clause ∷ [] }) d.place sound m.there refl
-    (record { described = both _ _ parts.0 (both _ _ more role.1); task = was.task }) (subst (IsPlace keys (n + 1)) (sym at) tt))
+    (record { described = and_from _ _ parts.0 (and_from _ _ more role.1); task = was.task }) (subst (IsPlace keys (n + 1)) (sym at) tt))
 
 generation_sound : (n g : ℕ) (d e : Declared) → d.place ≡ outside → IsSound n d → generation_placed (n + 1) g d ≡ Ok e → IsSound (n + 1) e
 unfolding generation_placed
@@ -182,7 +181,7 @@ script_room n budget x h =
     let b = skips x.is_guest _ _ h in
     let c = skips (is_some x.task) _ _ b.1 in
     let g = skips (not (nat_le 1 budget && nat_le budget MOST_BUDGET)) _ _ c.1 in
-    not_no _ g.0
+    not-false _ g.0
 
 script_line_sound : (n : ℕ) (name : List ℕ) (budget : ℕ) (d e : Declared) → IsSound n d → script_placed (n + 1) name budget d ≡ Ok e → IsSound (n + 1) e
 unfolding script_placed
@@ -265,10 +264,10 @@ plan_more keys n s commands after h r =
     let b = faultless n false (not (is_spelled keys s)) (cond (nat_le MOST_PLANNED (length commands)) (Some which.Plan) None) a.0 in
     let c = skips (nat_le MOST_PLANNED (length commands)) _ _ b.1.1 in
     let parts = and_parts (nat_le (length commands) MOST_PLANNED) _ h in
-    let written = (and_parts (is_written keys s.command) _ (not_no _ b.1.0)).0 in
+    let written = (and_parts (is_written keys s.command) _ (not-false _ b.1.0)).0 in
     subst (λ cs. is_plan keys cs ≡ true) a.1
-    (both _ _ (le_true (length (commands ++ s.command ∷ [])) MOST_PLANNED (omega (arith, length-append commands (s.command ∷ []), fewer (length commands) c.0)))
-    (list_all-append (is_written keys) commands (s.command ∷ []) ∙ both _ _ parts.1 (both _ _ written refl)))
+    (and_from _ _ (le-leb (length (commands ++ s.command ∷ [])) MOST_PLANNED (omega (arith, length-append commands (s.command ∷ []), fewer (length commands) c.0)))
+    (list_all-append (is_written keys) commands (s.command ∷ []) ∙ and_from _ _ parts.1 (and_from _ _ written refl)))
 
 plan_step_sound : (n h : ℕ) (d e : Declared) (s : Result (List Command) ReadError) → IsSound n d → ((more : List Command) → s ≡ Ok more → is_plan (declared_keys d) more ≡ true)
     → and_then s (λ more. Ok (record d { place = in_plan h more })) ≡ Ok e → IsSound (n + 1) e

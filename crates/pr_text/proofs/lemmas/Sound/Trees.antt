@@ -1,17 +1,10 @@
 -- Scripts whose lines may stand where they do follow the grammar.
-use Rattle.pr_text.proofs.Common.{◌≡◌, ℕ, suc, ◌+◌, ◌≤◌, Bool, true, false, cond, not, ◌&&◌, List, [], ◌∷◌, ◌++◌, nat_lt, nat_le, count_by, refl, ap, ◌∙◌, subst, append_assoc, append-nil, arith, and_parts, nat_tests, Command, is_written, test_fits, Stmt, Stmts, Arms, sends, repeats, none, more, no_arm, arm, breaks, stops, MOST_STATEMENTS, MOST_ARMS, MOST_OPEN, MOST_TURNS, both, OpenBlock, sending, ScriptLine, arm_on, block_done, statement_lines, body_lines, arms_lines, send_at, repeat_of, break_out, stop_with, is_repeating, is_sending, awaits_arm, is_statement, Reached, may, may_all}
+use Rattle.pr_text.proofs.Common.{◌≡◌, ℕ, suc, ◌+◌, ◌≤◌, Bool, true, false, cond, not, ◌&&◌, List, [], ◌∷◌, ◌++◌, nat_lt, nat_le, count_by, refl, ap, ◌∙◌, subst, append_assoc, append-nil, arith, and_parts, Command, is_written, test_fits, Stmt, Stmts, Arms, sends, repeats, none, more, no_arm, arm, breaks, stops, MOST_STATEMENTS, MOST_ARMS, MOST_OPEN, MOST_TURNS, and_from, OpenBlock, sending, ScriptLine, arm_on, block_done, statement_lines, body_lines, arms_lines, send_at, repeat_of, break_out, stop_with, is_repeating, is_sending, awaits_arm, is_statement, Reached, may, may_all, le-leb}
+use Rattle.std.proofs.lemmas.Bool.{ltb-true}
 use Rattle.std.proofs.lemmas.List.Sums.{sum_by-cons, sum_by-append}
 use Rattle.pr_script.specs.Grammar.{count_of_arms, begins_body, statement_fits, statements_fit, arms_fit, count_of, count_of_all, count_in_arms, lines_of, lines_of_all, lines_of_arms, rise_above, script_fits}
 use Rattle.pr_text.specs.Declarations.{repeating}
 use Rattle.pr_text.specs.inside.Sound.{may_state, sends_in, AreWhole}
-use Rattle.pr_lines.proofs.lemmas.Tests.{true_lt}
-
-pub no_not : (b : Bool) → not b ≡ true → b ≡ false
-no_not true h = cc
-no_not false h = refl
-
-pub le_true : (n m : ℕ) → n ≤ m → nat_le n m ≡ true
-le_true n m h = grind (arith, nat_tests)
 
 -- ---- the blocks
 
@@ -58,7 +51,7 @@ mutual
       let arms = arms_stand keys a bs c 0 false rest r s er es (omega arith) inner in
       let room : nat_lt s MOST_OPEN ≡ true = rw es at tests.1 in
       record {
-        fitting = both _ _ (both _ _ tests.0 (le_true (count_of_arms a) MOST_ARMS (omega (arith, arms.few)))) (both _ _ room arms.fitting);
+        fitting = and_from _ _ (and_from _ _ tests.0 (le-leb (count_of_arms a) MOST_ARMS (omega (arith, arms.few)))) (and_from _ _ room arms.fitting);
         begun = true;
         behind = arms.behind;
       }
@@ -71,7 +64,7 @@ mutual
       let done = and_parts body.begun _ body.behind in
       let room : nat_lt r MOST_OPEN ≡ true = rw er at tests.1 in
       record {
-        fitting = both _ _ (both _ _ bounds.0 (both _ _ bounds.1 (begins keys b bs rest inner))) (both _ _ room body.fitting);
+        fitting = and_from _ _ (and_from _ _ bounds.0 (and_from _ _ bounds.1 (begins keys b bs rest inner))) (and_from _ _ room body.fitting);
         begun = true;
         behind = done.1;
       }
@@ -91,7 +84,7 @@ mutual
       let whole : May keys bs begun (statement_lines x ++ (body_lines ss ++ rest)) = subst (May keys bs begun) (append_assoc (statement_lines x) (body_lines ss) rest) h in
       let first = statement_stands keys x bs begun (body_lines ss ++ rest) r s er es whole in
       let others = statements_stand keys ss bs first.begun rest r s er es first.behind in
-      record { fitting = both _ _ first.fitting others.fitting; begun = others.begun; behind = others.behind }
+      record { fitting = and_from _ _ first.fitting others.fitting; begun = others.begun; behind = others.behind }
 
   arms_stand : (keys : List ℕ) (a : Arms) (bs : List OpenBlock) (c : Command) (k : ℕ) (begun : Bool) (rest : List ScriptLine) (r s : ℕ)
       → count_by is_repeating bs ≡ r → count_by is_sending bs ≡ s → k ≤ MOST_ARMS
@@ -100,13 +93,13 @@ mutual
   arms_stand keys (arm t body others) bs c k begun rest r s er es few h =
       let parts = and_parts (test_fits keys c t && nat_lt k MOST_ARMS) _ h in
       let tests = and_parts (test_fits keys c t) _ parts.0 in
-      let below = true_lt k MOST_ARMS tests.1 in
+      let below = ltb-true k MOST_ARMS tests.1 in
       let whole : May keys (sending c (k + 1) ∷ bs) false (body_lines body ++ (arms_lines others ++ block_done ∷ rest)) = subst (May keys (sending c (k + 1) ∷ bs) false) (append_assoc (body_lines body) (arms_lines others) (block_done ∷ rest)) parts.1 in
       let inner = statements_stand keys body (sending c (k + 1) ∷ bs) false (arms_lines others ++ block_done ∷ rest) r (s + 1)
       (as_many is_repeating (sending c (k + 1)) bs r refl er) (one_more is_sending (sending c (k + 1)) bs s refl es) whole in
       let next = arms_stand keys others bs c (k + 1) inner.begun rest r s er es (omega arith) inner.behind in
       record {
-        fitting = both _ _ (both _ _ tests.0 inner.fitting) next.fitting;
+        fitting = and_from _ _ (and_from _ _ tests.0 inner.fitting) next.fitting;
         few = omega (arith, next.few);
         behind = next.behind;
       }
@@ -170,4 +163,4 @@ pub whole_fits : (keys : List ℕ) (b : Stmts) → AreWhole keys (body_lines b) 
 whole_fits keys b whole =
     let standing : May keys [] false (body_lines b ++ []) = rw (append-nil (body_lines b)) whole.standing in
     let fits = statements_stand keys b [] false [] 0 0 refl refl standing in
-    both (statements_fit keys 0 0 b) _ fits.fitting (both (nat_le (count_of_all b) MOST_STATEMENTS) (rise_above 0 (lines_of_all b)) (rw (← body_counted b) whole.short) (rw (← body_sends b) whole.rising))
+    and_from (statements_fit keys 0 0 b) _ fits.fitting (and_from (nat_le (count_of_all b) MOST_STATEMENTS) (rise_above 0 (lines_of_all b)) (rw (← body_counted b) whole.short) (rw (← body_sends b) whole.rising))

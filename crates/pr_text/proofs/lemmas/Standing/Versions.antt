@@ -1,5 +1,5 @@
 -- What is declared with one line more is what the version has.
-use Rattle.pr_text.proofs.Common.{◌≡◌, ℕ, zero, suc, ◌+◌, Bool, true, false, not, ◌&&◌, List, [], ◌∷◌, ◌++◌, length, nat_lt, nat_le, slice_set, Some, None, Ok, Option, sym, refl, ap, ◌∙◌, subst, arith, list_all, slice_get, option_map_or, unwrap_or, and_parts, nat_tests, list_all-append, is_count, are_resets, most_declared, MOST_REFUSALS, MOST_RESETS, states, ScenarioLine, DeclaringLine, StatementLine, fence_line, declares, nexus_line, start_line, pending_line, refusals_line, resets_line, role_line, script_line, plan_line, end_line, send_line, on_line, done_line, repeat_line, break_line, stop_line, command_line, since, RefusalKind, ParsedCommand, is_item, both, Declared, WrittenTask, scripted, planned, Declaration, OpenLines, Context, before_all, outside, in_script, in_plan, codes_of, number_of, with_count, with_task, begun_script, with_statement_line, item_placed, ScriptLine, arm_on, block_done, send_at, repeat_of, break_out, stop_with, Which, is_line_of, IsDated}
+use Rattle.pr_text.proofs.Common.{◌≡◌, ℕ, zero, suc, ◌+◌, Bool, true, false, not, ◌&&◌, List, [], ◌∷◌, ◌++◌, length, nat_lt, nat_le, slice_set, Some, None, Ok, Option, sym, refl, ap, ◌∙◌, subst, arith, list_all, slice_get, option_map_or, unwrap_or, and_parts, nat_tests, list_all-append, is_count, are_resets, most_declared, MOST_REFUSALS, MOST_RESETS, states, ScenarioLine, DeclaringLine, StatementLine, fence_line, declares, nexus_line, start_line, pending_line, refusals_line, resets_line, role_line, script_line, plan_line, end_line, send_line, on_line, done_line, repeat_line, break_line, stop_line, command_line, since, RefusalKind, ParsedCommand, is_item, and_from, Declared, WrittenTask, scripted, planned, Declaration, OpenLines, Context, before_all, outside, in_script, in_plan, codes_of, number_of, with_count, with_task, begun_script, with_statement_line, item_placed, ScriptLine, arm_on, block_done, send_at, repeat_of, break_out, stop_with, Which, is_line_of, IsDated, le-leb, not-false}
 use Rattle.std.proofs.lemmas.List.{length-set}
 use Rattle.pr_lines.specs.declared.item.RefusalKind.TheVariants as refusal
 use Rattle.pr_lines.specs.Versions.{declaring_since, statement_since}
@@ -9,8 +9,7 @@ use Rattle.pr_text.specs.LineFaults.{past_limit, names_unknown, keys_undeclared,
 use Rattle.pr_text.specs.NextLine.{with_nexus, with_declared, with_line}
 use Rattle.pr_text.specs.inside.Sound.{is_written_of, is_declared_of, IsPlaceOf}
 use Rattle.pr_text.proofs.lemmas.Sound.Lists.{one_long}
-use Rattle.pr_text.proofs.lemmas.Sound.Scripts.{not_no, passes, skips}
-use Rattle.pr_text.proofs.lemmas.Sound.Trees.{le_true}
+use Rattle.pr_text.proofs.lemmas.Sound.Scripts.{passes, skips}
 use Rattle.pr_text.proofs.lemmas.ScriptRoundTrip.Versions.{by_has, count_kept, resets_kept}
 
 -- ---- one nexus
@@ -22,8 +21,8 @@ dated_at p (y ∷ xs) (suc h) x there all = dated_at p xs h x there (and_parts (
 
 dated_set : (p : Declaration → Bool) (xs : List Declaration) (h : ℕ) (y : Declaration) → p y ≡ true → list_all p xs ≡ true → list_all p (slice_set xs h y) ≡ true
 dated_set p [] h y is all = refl
-dated_set p (x ∷ xs) zero y is all = both _ _ is (and_parts (p x) _ all).1
-dated_set p (x ∷ xs) (suc h) y is all = let parts = and_parts (p x) _ all in both _ _ parts.0 (dated_set p xs h y is parts.1)
+dated_set p (x ∷ xs) zero y is all = and_from _ _ is (and_parts (p x) _ all).1
+dated_set p (x ∷ xs) (suc h) y is all = let parts = and_parts (p x) _ all in and_from _ _ parts.0 (dated_set p xs h y is parts.1)
 
 -- what keeps the version of each keeps that of all
 nexus_dated : (p : Declaration → Bool) (xs : List Declaration) (h : ℕ) (f : Declaration → Declaration) (o : Option Declaration)
@@ -48,17 +47,17 @@ named_dated d f (Some h) dated at each = record {
 }
 
 counted : (v : ℕ) (r : RefusalKind) (count : ℕ) (x : Declaration) → is_count v count ≡ true → is_declared_of v x ≡ true → is_declared_of v (with_count r count x) ≡ true
-counted v refusal.Busy count x room h = let parts = and_parts (is_count v (unwrap_or x.busy 0)) _ h in both _ _ room parts.1
+counted v refusal.Busy count x room h = let parts = and_parts (is_count v (unwrap_or x.busy 0)) _ h in and_from _ _ room parts.1
 counted v refusal.Full count x room h =
     let parts = and_parts (is_count v (unwrap_or x.busy 0)) _ h in
     let rest = and_parts (is_count v (unwrap_or x.full 0)) _ parts.1 in
-    both _ _ parts.0 (both _ _ room rest.1)
+    and_from _ _ parts.0 (and_from _ _ room rest.1)
 
 tasked : (v : ℕ) (t : WrittenTask) (x : Declaration) → is_written_of v (Some t) ≡ true → is_declared_of v x ≡ true → is_declared_of v (record x { task = Some t }) ≡ true
 tasked v t x written h =
     let parts = and_parts (is_count v (unwrap_or x.busy 0)) _ h in
     let rest = and_parts (is_count v (unwrap_or x.full 0)) _ parts.1 in
-    both _ _ parts.0 (both _ _ rest.0 written)
+    and_from _ _ parts.0 (and_from _ _ rest.0 written)
 
 tasked_dated : (d : Declared) (h : ℕ) (t : WrittenTask) → is_written_of d.version (Some t) ≡ true → IsDated d → IsDated (with_task d h t)
 tasked_dated d h t written dated = record {
@@ -84,7 +83,7 @@ new_dated d x is room at dated = record {
   version = dated.version;
   resets = dated.resets;
   few = rw (one_long d.nexuses x) (few_more (length d.nexuses) (most_declared d.version) room);
-  each = list_all-append (is_declared_of d.version) d.nexuses (x ∷ []) ∙ both _ _ dated.each (both _ _ is refl);
+  each = list_all-append (is_declared_of d.version) d.nexuses (x ∷ []) ∙ and_from _ _ dated.each (and_from _ _ is refl);
   place = subst (IsPlaceOf d.version d.resets (d.nexuses ++ x ∷ [])) (sym at) tt;
 }
 
@@ -95,13 +94,13 @@ declared_dated n (start_line name xs) d at has few dated = named_dated d (λ x. 
 declared_dated n (pending_line name xs) d at has few dated = named_dated d (λ x. record x { pending = Some (codes_of xs) }) (number_of d.nexuses name) dated at (λ x h. h)
 declared_dated n (refusals_line r name count) d at has few dated =
     let room = skips (not (nat_le 1 count && nat_le count MOST_REFUSALS)) _ _ few in
-    let kept = count_kept d.version count dated.version has (not_no _ room.0) in
+    let kept = count_kept d.version count dated.version has (not-false _ room.0) in
     named_dated d (with_count r count) (number_of d.nexuses name) dated at (λ x. counted d.version r count x kept)
 declared_dated n (resets_line count) d at has few dated =
     let room = skips (not (nat_le 1 count && nat_le count MOST_RESETS)) _ _ few in
     record {
       version = dated.version;
-      resets = resets_kept d.version count dated.version has (not_no _ room.0);
+      resets = resets_kept d.version count dated.version has (not-false _ room.0);
       few = dated.few;
       each = dated.each;
       place = subst (IsPlaceOf d.version (Some count) d.nexuses) (sym at) tt;
@@ -114,7 +113,7 @@ declared_dated n _ d at has few dated = record { version = dated.version; resets
 -- ---- a line of a script or plan
 
 one_more : (v : ℕ) (ls : List ScriptLine) (l : ScriptLine) → is_line_of v l ≡ true → list_all (is_line_of v) ls ≡ true → list_all (is_line_of v) (ls ++ l ∷ []) ≡ true
-one_more v ls l is all = list_all-append (is_line_of v) ls (l ∷ []) ∙ both _ _ all (both _ _ is refl)
+one_more v ls l is all = list_all-append (is_line_of v) ls (l ∷ []) ∙ and_from _ _ all (and_from _ _ is refl)
 
 stated_dated : (v n : ℕ) (l : StatementLine) (o : OpenLines) → nat_lt v (statement_since l) ≡ false → list_all (is_line_of v) o.lines ≡ true
     → list_all (is_line_of v) (with_statement_line n l o).lines ≡ true
@@ -153,7 +152,7 @@ none_before v r xs before_all h at = at
 none_before v r xs _ h at = cc
 
 few_none : (version : ℕ) (xs : List Declaration) → xs ≡ [] → nat_le (length xs) (most_declared version) ≡ true
-few_none version xs none = ap (λ ys. nat_le (length ys) (most_declared version)) none ∙ le_true 0 (most_declared version) (omega arith)
+few_none version xs none = ap (λ ys. nat_le (length ys) (most_declared version)) none ∙ le-leb 0 (most_declared version) (omega arith)
 
 -- a line without fault stands well, and keeps its limit
 stands_well : (n : ℕ) (misplaced unknown undeclared again : Bool) (limit : Option Which) → first_fault n misplaced unknown undeclared again limit ≡ None → (misplaced ≡ false) × (limit ≡ None)
@@ -163,7 +162,7 @@ stands_well n _ _ _ _ _ h = cc
 line_dated : (n : ℕ) (i : ScenarioLine) (d : Declared) → is_item i ≡ true → nat_lt d.version (since i) ≡ false → standing_fault n d i ≡ None → IsDated d → IsDated (with_line n d i)
 line_dated n (fence_line version) d known has faultless dated =
     let well = stands_well n (not (is_before_all d.place)) false false false None faultless in
-    let none = none_before d.version d.resets d.nexuses d.place (not_no _ well.0) dated.place in
+    let none = none_before d.version d.resets d.nexuses d.place (not-false _ well.0) dated.place in
     record {
       version = known;
       resets = ap (λ r. are_resets version (unwrap_or r 0)) none.0;
@@ -173,7 +172,7 @@ line_dated n (fence_line version) d known has faultless dated =
     }
 line_dated n (declares l) d known has faultless dated =
     let well = stands_well n (not (is_outside d.place)) (names_unknown d l) (keys_undeclared d l) (says_again d l) (past_limit d l) faultless in
-    declared_dated n l d (outside_is d.place (not_no _ well.0)) has well.1 dated
+    declared_dated n l d (outside_is d.place (not-false _ well.0)) has well.1 dated
 line_dated n (states l) d known has faultless dated =
     record { version = dated.version; resets = dated.resets; few = dated.few; each = dated.each; place = in_script_dated d.version d.resets d.nexuses n l d.place has dated.place }
 line_dated n (command_line s) d known has faultless dated =
