@@ -1,5 +1,5 @@
 -- The names that most proofs of this crate cite, passed on from one place. Declares nothing.
-pub use Rattle.std.proofs.Common.{◌≡◌, ℕ, zero, suc, ◌+◌, ◌<◌, ◌≤◌, min, Bool, true, false, ◌&&◌, ◌≢◌, ◌⊎◌, ◌↔◌, List, [], ◌∷◌, ◌++◌, map, length, get_or, take, drop, is_some, IfErr, if◌then◌else◌, IsTrue, nat_lt, nat_le, ◌==◌, slice_get, slice_index_or, slice_set, Some, None, Ok, Err, vec_len, All, Contains, Option, Result, Vec, AllPairs, option_and_then, Global, sym, refl, ap, ◌∙◌, subst, inl, inr, arith, length-set, get_or-set_same, rules, ltb-true, leb-true}
+pub use Rattle.std.proofs.Common.{◌≡◌, ℕ, zero, suc, ◌+◌, ◌<◌, ◌≤◌, min, Bool, true, false, ◌&&◌, ◌≢◌, ◌⊎◌, ◌↔◌, List, [], ◌∷◌, ◌++◌, map, length, get_or, take, drop, is_some, IfErr, if◌then◌else◌, IsTrue, nat_lt, nat_le, ◌==◌, slice_get, slice_index_or, slice_set, Some, None, Ok, Err, vec_len, All, Contains, Option, Result, Vec, AllPairs, option_and_then, Global, sym, refl, ap, ◌∙◌, subst, inl, inr, arith, length-set, get_or-set_same, rules, ltb-true, leb-true, below_more}
 pub use Rattle.std.specs.List.{AllZip}
 pub use Rattle.std.specs.Option.{option_map_or}
 pub use Rattle.std.specs.Vec.Iter.{into_iter_items}
@@ -38,6 +38,7 @@ pub use Rattle.pr_roles.specs.Worlds.{World, control, Host, world_from}
 pub use Rattle.pr_roles.specs.declared.how.How.{How}
 pub use Rattle.pr_roles.specs.declared.how.Refusals.{Refusals}
 pub use Rattle.pr_roles.specs.inside.FirstElements.{Among}
+pub use Rattle.pr_roles.proofs.lemmas.FirstStarts.Existence.{slice_get_contains}
 pub use Rattle.pr_views.specs.Possibilities.{Scope, IsScope, Item, Registration, Reservation, Attentions, IsSo}
 pub use Rattle.pr_views.specs.Rooms.{scope_of, view_of, AreAlike}
 pub use Rattle.pr_views.specs.Views.{View, IsPossible, Shows, Fits, Within}
@@ -47,7 +48,6 @@ pub use Rattle.pr_views.proofs.lemmas.Views.Values.{fits}
 pub use Rattle.pr_domain.specs.Landings.{IsLanding}
 pub use Rattle.pr_domain.specs.Outcomes.{Outcome, IsExpected, AreOutcomes}
 pub use Rattle.pr_domain.specs.Starting.{IsOfStart}
-pub use Rattle.pr_domain.proofs.lemmas.Outcomes.Coverage.{contains_from_get}
 pub use Rattle.pr_domain.proofs.lemmas.Starting.WrittenNumbers.{are_counted}
 pub use Rattle.pr_permission.specs.Permission.{IsPermittedIn, IsRefusedIn}
 pub use Rattle.pr_interference.specs.Interference.{IsDone, Becomes, by_another, by_reset, IsClosed, IsClosure}

@@ -1,10 +1,9 @@
--- The table of a host that has a script, and its version.
-use Rattle.std.proofs.Common.{◌≡◌, ℕ, zero, suc, List, [], ◌∷◌, map, Some, None, refl, ap, ◌∙◌}
+-- The table of a host that has a script.
+use Rattle.std.proofs.Common.{◌≡◌, ℕ, zero, suc, List, [], ◌∷◌, map, Some, None, ap, ◌∙◌}
 use Rattle.std.specs.Prelude.{slice_index_or}
 use Rattle.std.specs.List.{slice_get}
 use Rattle.pr_script.specs.Scripts.{Stmts}
-use Rattle.pr_roles.specs.declared.parts.Parts.{Parts}
-use Rattle.pr_roles.specs.Scenarios.{Nexus, Scenario, Scripted, nexus, scenario_of, task}
+use Rattle.pr_roles.specs.Scenarios.{Nexus, Scenario, Scripted, nexus, task}
 use Rattle.pr_trace.specs.TraceText.{name_of, names_in}
 use Rattle.pr_table.specs.Rows.{table_rows}
 use Rattle.pr_table.specs.TableText.{host_table_text, table_text, task_table_text}
@@ -19,8 +18,3 @@ pub scripted_text : (s : Scenario) (h : ℕ) (m : Nexus) (b : Stmts) (budget : �
 scripted_text s h m b budget there scripted =
     ap (task_table_text s.version (name_of (names_in s) h)) scripted
     ∙ ap (λ name. table_text s.version name budget (table_rows b)) (named s.nexuses h m there)
-
--- a scenario has the version of its parts
-pub version_of_parts : (p : Parts) → p.version ≡ (scenario_of p).version
-unfolding scenario_of
-version_of_parts p = refl

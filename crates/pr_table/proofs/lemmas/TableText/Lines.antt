@@ -1,7 +1,5 @@
 -- The lines of rows, one statement or arm after another.
-use Rattle.std.proofs.Common.{◌≡◌, ℕ, ◌+◌, ◌<◌, ◌≤◌, List, [], ◌∷◌, ◌++◌, length, get_or, take, drop, sym, ap, ◌∙◌, subst, arith, append_assoc, drop_of_length-le, ◌-◌, length-drop}
-use Rattle.std.proofs.Math.Seq.{take-length}
-use Rattle.std.proofs.Common.{Option, Result}
+use Rattle.std.proofs.Common.{◌≡◌, ℕ, ◌+◌, ◌<◌, ◌≤◌, List, [], ◌∷◌, ◌++◌, length, get_or, drop, sym, ap, ◌∙◌, arith, append_assoc, drop_of_length-le, ◌-◌}
 use Rattle.std.specs.List.{flat_map}
 use Rattle.std.proofs.lemmas.List.{drop_more}
 use Rattle.pr_script.specs.declared.script.Arm.{Arm}
@@ -10,7 +8,6 @@ use Rattle.pr_script.specs.Scripts.{Stmts, more, arm}
 use Rattle.pr_script.specs.Trees.{script_of, statement_of, statements_in}
 use Rattle.pr_script.specs.inside.ArmLists.{arms_in}
 use Rattle.pr_table.specs.Rows.{TableRow, row_count, row_count_of_all, row_count_of_arms, first_row, arm_rows, rows_of, rows_of_all, rows_of_arms}
-use Rattle.pr_output.specs.Written.{Puts}
 use Rattle.pr_table.specs.TableText.{arm_line, row_text, rows_text}
 use Rattle.pr_table.proofs.lemmas.Rows.Lengths.{length-rows_of, length-rows_of_all}
 
@@ -79,13 +76,3 @@ bodies_over xs i row next past over = ap (λ ys. rows_text row (rows_of_arms row
 
 pub lines_over : (xs : List Arm) (i row next : ℕ) → length xs ≤ i → flat_map arm_line (arm_rows row next (arms_in (drop i xs))) ≡ []
 lines_over xs i row next over = ap (λ ys. flat_map arm_line (arm_rows row next (arms_in ys))) (drop_of_length-le xs {i = i} over)
-
--- ---- what is written
-
--- the rest of a list
-pub rest_taken : {X : Type 0} (xs : List X) (k : ℕ) → take (length xs - k) (drop k xs) ≡ drop k xs
-rest_taken xs k = ap (λ n. take n (drop k xs)) (sym (length-drop k xs)) ∙ take-length (drop k xs)
-
--- the same text
-pub puts_as : {E : Type 0} (old new : Option (List ℕ)) (x y : List ℕ) (r : Result (Unit {0}) E) → x ≡ y → Puts old new y r → Puts old new x r
-puts_as old new x y r same puts = subst (λ t. Puts old new t r) (sym same) puts

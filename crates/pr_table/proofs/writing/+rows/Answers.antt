@@ -1,6 +1,7 @@
 -- One statement or arm more, and a row of each kind.
 use Rattle.std.proofs.Common.{◌≡◌, ℕ, ◌+◌, List, [], ◌∷◌, drop, sym, ap, ◌∙◌, subst, arith}
 use Rattle.std.specs.Io.KnownBytes.{Appends}
+use Rattle.std.proofs.lemmas.List.{take_rest}
 use Rattle.pr_script.specs.declared.script.Arm.{Arm}
 use Rattle.pr_script.specs.declared.script.Statement.{Statement}
 use Rattle.pr_script.specs.Trees.{script_of, statement_of, statements_in}
@@ -8,10 +9,11 @@ use Rattle.pr_script.specs.inside.ArmLists.{arms_in}
 use Rattle.pr_script.proofs.lemmas.Trees.Equations.{tree_repeat, tree_send}
 use Rattle.pr_output.specs.Written.{FallsShort, Puts, Wrote}
 use Rattle.pr_output.proofs.lemmas.Written.Fronts.{front_first, puts_err, puts_last, wrote_front, wrote_more}
+use Rattle.pr_report.proofs.lemmas.WordsWritten.Possibilities.{puts_as}
 use Rattle.pr_table.specs.Rows.{again_row, arm_rows, first_row, row_count, row_count_of_all, row_count_of_arms, rows_of, rows_of_all, rows_of_arms, send_row}
 use Rattle.pr_table.specs.TableText.{row_text, rows_text}
 use Rattle.pr_table.proofs.lemmas.Rows.Counts.{rows_of_repeat, rows_of_send}
-use Rattle.pr_table.proofs.lemmas.TableText.Lines.{arm_rows_from, bodies_from, puts_as, rest_taken, rows_from, rows_then, text_from}
+use Rattle.pr_table.proofs.lemmas.TableText.Lines.{arm_rows_from, bodies_from, rows_from, rows_then, text_from}
 use Rattle.pr_table.proofs.writing.+rows.Goals as goal
 
 -- ---- statements
@@ -25,7 +27,7 @@ put_statements-returns-in_err-put_statement g t c =
     let row = c.loop-i.row in
     let here = text_from xs i x c.loop-i-test.true c.index-statements-i.is row c.args.next c.args.past in
     let count : c.row_count.result ≡ row_count s = omega (arith, rows_from xs i x c.loop-i-test.true c.index-statements-i.is, c.loop-i.invariant.row, c.requires, c.row_count.ensures) in
-    let onto = c.first_row-onto.ensures ∙ ap (λ (ys : List Statement). first_row (row + c.row_count.result) c.args.next (statements_in ys)) (rest_taken xs (i + 1)) ∙ ap (λ k. first_row (row + k) c.args.next (statements_in (drop (i + 1) xs))) count in
+    let onto = c.first_row-onto.ensures ∙ ap (λ (ys : List Statement). first_row (row + c.row_count.result) c.args.next (statements_in ys)) (take_rest xs (i + 1)) ∙ ap (λ k. first_row (row + k) c.args.next (statements_in (drop (i + 1) xs))) count in
     let short = subst (λ (k : ℕ). FallsShort (g.W.Write.contents c.loop-i.writer) (g.W.Write.contents c.put_statement.new.writer) (rows_text row (rows_of row k c.args.past s))) onto c.in_err-put_statement.ensures in
     puts_err _ _ _ _ (wrote_front _ _ _ _ _ _ (rw here at c.loop-i.invariant.wrote) short) c.from_residual.ensures.0
 
@@ -40,7 +42,7 @@ put_statements-loop-i-preserved g t c =
     let rows = rows_from xs i x c.loop-i-test.true c.index-statements-i.is in
     let was = c.loop-i.invariant.row in
     let count : c.row_count.result ≡ row_count s = omega (arith, rows, was, c.requires, c.row_count.ensures) in
-    let onto = c.first_row-onto.ensures ∙ ap (λ (ys : List Statement). first_row (row + c.row_count.result) c.args.next (statements_in ys)) (rest_taken xs (i + 1)) ∙ ap (λ k. first_row (row + k) c.args.next (statements_in (drop (i + 1) xs))) count in
+    let onto = c.first_row-onto.ensures ∙ ap (λ (ys : List Statement). first_row (row + c.row_count.result) c.args.next (statements_in ys)) (take_rest xs (i + 1)) ∙ ap (λ k. first_row (row + k) c.args.next (statements_in (drop (i + 1) xs))) count in
     let done = subst (λ (k : ℕ). Appends (g.W.Write.contents c.loop-i.writer) (g.W.Write.contents c.put_statement.new.writer) (rows_text row (rows_of row k c.args.past s))) onto c.in_ok-put_statement.ensures in
     record {
       wrote = subst (λ n. Wrote (g.W.Write.contents c.args.writer.now) (g.W.Write.contents c.put_statement.new.writer) (rows_text c.args.at (rows_of_all c.args.at c.args.next c.args.past (statements_in xs)))

@@ -6,9 +6,10 @@ use Rattle.pr_script.specs.declared.script.Statement.{Statement}
 use Rattle.pr_script.specs.Trees.{script_of, statements_in}
 use Rattle.pr_output.specs.Written.{FallsShort, Puts}
 use Rattle.pr_output.proofs.lemmas.Written.Fronts.{front_first, puts_err, puts_last}
+use Rattle.pr_report.proofs.lemmas.WordsWritten.Possibilities.{puts_as}
 use Rattle.pr_table.specs.Rows.{row_count_of_all, rows_of_all, stop_row}
 use Rattle.pr_table.specs.TableText.{rows_text}
-use Rattle.pr_table.proofs.lemmas.TableText.Lines.{puts_as, rows_then}
+use Rattle.pr_table.proofs.lemmas.TableText.Lines.{rows_then}
 use Rattle.pr_table.proofs.writing.put_script.Goals as goal
 
 pub returns-in_err-put_statements : goal.returns-in_err-put_statements

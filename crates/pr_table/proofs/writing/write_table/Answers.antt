@@ -1,15 +1,16 @@
 -- The script of a scenario fits, so that it has few rows; it is the host's, and the version is the scenario's.
-use Rattle.std.proofs.Common.{◌≡◌, ℕ, List, ap, ◌∙◌, subst}
+use Rattle.std.proofs.Common.{◌≡◌, ℕ, List, ap, ◌∙◌, subst, refl}
 use Rattle.pr_script.specs.Trees.{script_of}
 use Rattle.pr_roles.specs.declared.parts.Parts.{Parts}
 use Rattle.pr_roles.specs.Scenarios.{nexus_of, scenario_of}
 use Rattle.pr_output.specs.Written.{Puts}
 use Rattle.pr_roles.proofs.lemmas.Scenarios.Nexuses.{scripted_fits, scripted_task}
+use Rattle.pr_trace.proofs.lemmas.TraceText.Lines.{version_read}
+use Rattle.pr_report.proofs.lemmas.WordsWritten.Possibilities.{puts_as}
 use Rattle.pr_table.specs.Rows.{table_rows}
 use Rattle.pr_table.specs.TableText.{table_text}
 use Rattle.pr_table.proofs.lemmas.Rows.Counts.{few_rows}
-use Rattle.pr_table.proofs.lemmas.TableText.Hosts.{scripted_text, version_of_parts}
-use Rattle.pr_table.proofs.lemmas.TableText.Lines.{puts_as}
+use Rattle.pr_table.proofs.lemmas.TableText.Hosts.{scripted_text}
 use Rattle.pr_table.proofs.writing.write_table.Goals as goal
 
 pub put_table-requires : goal.put_table-requires
@@ -26,7 +27,7 @@ returns g c =
     let found = c.nexus_in-nexus.ensures.nexus in
     let scripted = scripted_task s c.args.host n found c.in-Scripted.script c.in-Scripted.budget c.in-Scripted.is in
     let name = c.as_bytes-name.ensures.value ∙ c.as_str.ensures.value in
-    let version : c.parts.result.now.version ≡ s.version = ap (λ (p : Parts). p.version) c.parts.ensures.value ∙ version_of_parts c.args.scenario.now in
+    let version : c.parts.result.now.version ≡ s.version = ap (λ (p : Parts). p.version) c.parts.ensures.value ∙ version_read c.args.scenario.now c.args.scenario.now refl in
     let dated = subst (λ (v : ℕ). Puts (g.W.Write.contents c.args.writer.now) (g.W.Write.contents c.put_table.new.writer) (table_text v c.as_bytes-name.result.now c.in-Scripted.budget (table_rows b)) c.put_table.result) version c.put_table.ensures in
     let puts = subst (λ (x : List ℕ). Puts (g.W.Write.contents c.args.writer.now) (g.W.Write.contents c.put_table.new.writer) (table_text s.version x c.in-Scripted.budget (table_rows b)) c.put_table.result) name dated in
     puts_as _ _ _ _ _ (scripted_text s c.args.host (nexus_of n) b c.in-Scripted.budget found scripted) puts

@@ -1,9 +1,8 @@
 -- Checks that are made side by side: lists of them, and what they come to.
-use Rattle.pr_verify.proofs.Common.{◌≡◌, ℕ, zero, suc, ◌+◌, ◌<◌, List, [], ◌∷◌, ◌++◌, length, slice_index_or, Ok, Err, Result, sym, subst, arith, task, Scenario, scenario_of, HasOutline, OnScripted, SendsFit, Refusal, IsAnswerFor, EachFrom, IsAnswerBefore}
+use Rattle.pr_verify.proofs.Common.{◌≡◌, ℕ, zero, suc, ◌+◌, ◌<◌, List, [], ◌∷◌, ◌++◌, length, slice_index_or, Ok, Err, Result, sym, subst, arith, task, Scenario, scenario_of, HasOutline, OnScripted, SendsFit, Refusal, IsAnswerFor, EachFrom, IsAnswerBefore, below_more}
 use Rattle.std.specs.Result.{result_and}
 use Rattle.pr_verify.specs.declared.each.CheckOf.{CheckOf}
 use Rattle.pr_verify.specs.inside.Checks.{IsPromised}
-use Rattle.pr_verify.proofs.lemmas.Outlines.Checks.{below_next}
 use Rattle.pr_verify.proofs.lemmas.Verdicts.Reasons.{is_verdict}
 
 -- ---- lists, numbered
@@ -40,8 +39,8 @@ kept_answer s h promise answer is kept = subst (λ t. IsAnswerFor t h answer) is
 -- the answer for one host more
 pub answer_next : (s : Scenario) (n : ℕ) (before one : Result (Unit {0}) Refusal) → IsAnswerBefore s n before → IsAnswerFor s n one → IsAnswerBefore s (n + 1) (result_and before one)
 answer_next s n (Ok u) (Ok v) all here = (
-  below_next (λ h. OnScripted (task s h) (HasOutline s h)) n all.0 here.0,
-  (below_next (λ h. OnScripted (task s h) (λ script budget. SendsFit script)) n all.1.0 here.1.0, tt),
+  below_more (λ h. OnScripted (task s h) (HasOutline s h)) n all.0 here.0,
+  (below_more (λ h. OnScripted (task s h) (λ script budget. SendsFit script)) n all.1.0 here.1.0, tt),
 )
 answer_next s n (Ok u) (Err refusal) all here = (tt, (tt, is_verdict s n refusal here.1.1 all.0))
 answer_next s n (Err refusal) one all here = (tt, (tt, all.1.1))

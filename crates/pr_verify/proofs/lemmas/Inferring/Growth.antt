@@ -1,6 +1,6 @@
 -- A view lacks less once something is joined to it, and fewer possibilities where it was without one of them.
-use Rattle.pr_verify.proofs.Common.{◌≡◌, ℕ, ◌+◌, ◌<◌, ◌≤◌, Bool, true, false, ◌&&◌, ◌⊎◌, nat_lt, refl, ap, subst, inl, inr, arith, ltb-true, cases_lt, and_parts, Registration, Reservation, Attentions, View, Fits, Within}
-use Rattle.std.proofs.lemmas.Bool.{lt-ltb}
+use Rattle.pr_verify.proofs.Common.{◌≡◌, ℕ, ◌+◌, ◌<◌, ◌≤◌, Bool, true, false, ◌⊎◌, nat_lt, refl, ap, subst, inl, inr, arith, ltb-true, cases_lt, and_parts, Registration, Reservation, Attentions, View, Fits, Within}
+use Rattle.std.proofs.lemmas.Bool.{lt-ltb, and_from}
 use Rattle.pr_interference.specs.inside.Closing.{count_of_lacking, count_of_all_lacking}
 use Rattle.pr_interference.proofs.lemmas.Closing.ClosedViews.{Passes, lacking_less, lacking_fewer, lacking_all_less, lacking_all_fewer}
 use Rattle.pr_regions.proofs.lemmas.Portions.GatheredStates.{few_keys}
@@ -25,17 +25,13 @@ all_lack_no_less n g k p q there small goes same has_it = at (p g k) refl
 
 -- ---- views
 
-both_true : (a b : Bool) → a ≡ true → b ≡ true → (a && b) ≡ true
-both_true true b one two = two
-both_true false b one two = one
-
 module _ (v w : View) (hosts : w.scope.hosts ≡ v.scope.hosts) (within : Within v w) where
   has_more : (g : ℕ) → Passes (has_registration v g) (has_registration w g)
   has_more g r is =
       let parts = and_parts (nat_lt g v.scope.hosts) (v.registrations g r) is in
       let there = ltb-true g v.scope.hosts parts.0 in
       let wide = within (Registration g r) (there, parts.1) in
-      both_true (nat_lt g w.scope.hosts) (w.registrations g r) (lt-ltb g w.scope.hosts wide.0) wide.1
+      and_from (nat_lt g w.scope.hosts) (w.registrations g r) (lt-ltb g w.scope.hosts wide.0) wide.1
 
   registrations_less : count_of_all_lacking v.scope.hosts (has_registration w) ≤ count_of_all_lacking v.scope.hosts (has_registration v)
   registrations_less = lacking_all_less v.scope.hosts (has_registration v) (has_registration w) has_more
@@ -74,7 +70,7 @@ module _ (v w : View) (hosts : w.scope.hosts ≡ v.scope.hosts) (within : Within
         let there : g < v.scope.hosts = subst (λ n. g < n) also is.0 in
         let wide = joined (Registration g r) is in
         let had = all_lack_no_less v.scope.hosts g r (has_registration v) (has_registration w) there (omega arith) has_more (omega arith)
-        (both_true (nat_lt g w.scope.hosts) (w.registrations g r) (lt-ltb g w.scope.hosts wide.0) wide.1) in
+        (and_from (nat_lt g w.scope.hosts) (w.registrations g r) (lt-ltb g w.scope.hosts wide.0) wide.1) in
         (there, (and_parts (nat_lt g v.scope.hosts) (v.registrations g r) had).1)
     nothing_more same (Reservation x) is =
         let one = registrations_less in

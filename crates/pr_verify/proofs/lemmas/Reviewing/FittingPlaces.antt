@@ -1,5 +1,5 @@
 -- Whether a place fits, by the outcomes of its command.
-use Rattle.pr_verify.proofs.Common.{◌≡◌, ℕ, ◌≤◌, true, false, ◌↔◌, List, [], map, length, is_some, IsTrue, slice_get, Some, None, Contains, option_and_then, sym, refl, ap, ◌∙◌, subst, arith, position-Some, slice_get-get_or, Reply, Plain, Step, UnitState, matches, Answered, refusals_of, command_permitted, role, Scenario, view_of, View, Shows, ViewOf, IsLanding, Outcome, IsExpected, AreOutcomes, IsPermittedIn, IsRefusedIn, Class, Landing, NoArm, Arm, Outline, view_at, ShowsIn, IsShownAt, KeepsToRole, Place, follows, BreaksRole, class_number, IsUnarmed}
+use Rattle.pr_verify.proofs.Common.{◌≡◌, ℕ, ◌≤◌, true, false, ◌↔◌, List, [], map, length, is_some, IsTrue, slice_get, Some, Contains, option_and_then, sym, refl, ap, ◌∙◌, subst, arith, position-Some, slice_get-get_or, Reply, Plain, Step, UnitState, matches, Answered, refusals_of, command_permitted, role, Scenario, view_of, View, Shows, ViewOf, IsLanding, Outcome, IsExpected, AreOutcomes, IsPermittedIn, IsRefusedIn, Class, Landing, NoArm, Arm, Outline, view_at, ShowsIn, IsShownAt, KeepsToRole, Place, follows, BreaksRole, class_number, IsUnarmed, none-some}
 use Rattle.pr_script.specs.declared.script.Test.TheVariants as test
 use Rattle.pr_sets.specs.declared.view_set.ViewSet.{Ghosts as ViewSet}
 use Rattle.pr_regions.specs.Readings.{first_test}
@@ -106,9 +106,6 @@ module _ (s : Scenario) (o : Outline) (p : Place) (v : View) (here : IsHere o p 
           ends = ends.1;
         }
 
-    no_first : (n : ℕ) → None ≡ Some n → ⊥
-    no_first n bad = cc
-
     -- the class of a reply that finds no arm is listed
     pub lacking_listed : (class : Class) → LacksArm s o p class → IsUnarmed (length xs) xs class
     lacking_listed class lacks = at one.outcome.0 refl one.landing
@@ -117,7 +114,7 @@ module _ (s : Scenario) (o : Outline) (p : Place) (v : View) (here : IsHere o p 
         one = are.cover lacks.from lacks.reply lacks.after (shown_here lacks.from lacks.shown) (answer_own lacks.from lacks.reply lacks.after lacks.answer)
 
         at : (l : Landing) → one.outcome.0 ≡ l → IsLanding p.tests lacks.reply l → IsUnarmed (length xs) xs class
-        at (Arm n) is first = absurd (no_first n (sym lacks.none ∙ first))
+        at (Arm n) is first = absurd (none-some n (sym lacks.none ∙ first))
         at (NoArm other) is ends =
             unarmed_listed one.outcome class one.listed (is ∙ ap (λ c. NoArm c) (one_class lacks.reply other class ends.1 lacks.ends))
 

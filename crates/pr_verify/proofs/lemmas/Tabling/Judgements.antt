@@ -1,5 +1,5 @@
 -- What is found of a host, by its budget and its table; and of one host after another.
-use Rattle.pr_verify.proofs.Common.{◌≡◌, ℕ, ◌+◌, ◌≤◌, true, false, List, map, length, IfErr, Some, None, Ok, Err, Option, Result, sym, refl, ap, ◌∙◌, subst, arith, cost_of_all, rise_above, Stmts, script_of, Task, Scripted, task, Scenario, IsSafe, IsLeastSound, Outline, HasOutline, OnScripted, HaveOutlines, SendsFit, places_of, IsScripted, Refusal, Spot, place_of}
+use Rattle.pr_verify.proofs.Common.{◌≡◌, ℕ, ◌+◌, ◌≤◌, true, false, List, map, length, IfErr, Some, None, Ok, Err, Option, Result, sym, refl, ap, ◌∙◌, subst, arith, cost_of_all, rise_above, Stmts, script_of, Task, Scripted, task, Scenario, IsSafe, IsLeastSound, Outline, HasOutline, OnScripted, HaveOutlines, SendsFit, places_of, IsScripted, Refusal, Spot, place_of, below_more}
 use Rattle.std.specs.Option.{option_or, IfNone, IfSome}
 use Rattle.std.specs.Result.{OnOk, result_err}
 use Rattle.pr_roles.specs.Scenarios.{Planned}
@@ -9,7 +9,7 @@ use Rattle.pr_verify.specs.Tables.{has_script}
 use Rattle.pr_verify.specs.Verdicts.{IsFirstReason}
 use Rattle.pr_verify.specs.inside.Reviewing.{IsReason, IsFirstMisfit, IsOver}
 use Rattle.pr_verify.specs.inside.Tabling.{IsCosted, IsJudgement, IsJudgementBefore}
-use Rattle.pr_verify.proofs.lemmas.Outlines.Checks.{has_outline, below_next}
+use Rattle.pr_verify.proofs.lemmas.Outlines.Checks.{has_outline}
 use Rattle.pr_verify.proofs.lemmas.Reviewing.Findings.{is_fitting, is_refusal}
 use Rattle.pr_verify.proofs.lemmas.Rooms.Scripts.{on_script}
 use Rattle.pr_verify.proofs.lemmas.Verdicts.Reasons.{has_reason, first_is_final}
@@ -55,7 +55,7 @@ module _ (s : Scenario) where
   pub judged_next : (n : ℕ) (before here : Option Refusal) → IsJudgementBefore s n before → IsJudgement s n here → IsJudgementBefore s (n + 1) (option_or before here)
   judged_next n (Some refusal) here first also = first
   judged_next n None (Some refusal) all has = record { host = n; reason = has; before = all.0 }
-  judged_next n None None all here = (below_next (λ h. OnScripted (task s h) (HasOutline s h)) n all.0 here.0, below_next (λ h. OnScripted (task s h) (λ script budget. SendsFit script)) n all.1 here.1)
+  judged_next n None None all here = (below_more (λ h. OnScripted (task s h) (HasOutline s h)) n all.0 here.0, below_more (λ h. OnScripted (task s h) (λ script budget. SendsFit script)) n all.1 here.1)
 
   -- of one more, which has no script
   pub judged_past : (n : ℕ) (before : Option Refusal) → IsJudgementBefore s n before → has_script (task s n) ≡ false → IsJudgementBefore s (n + 1) before

@@ -1,9 +1,10 @@
 -- The row of a place, by the outcomes of its command.
-use Rattle.pr_verify.proofs.Common.{◌≡◌, ℕ, suc, ◌+◌, ◌<◌, ◌≤◌, Bool, true, false, ◌⊎◌, ◌↔◌, List, [], ◌∷◌, ◌++◌, map, length, get_or, take, IsTrue, slice_index_or, Some, None, All, Contains, Option, AllPairs, sym, refl, ap, ◌∙◌, subst, inl, inr, arith, AllZip, cases_lt, All-map, Contains-append_left, position-Some, map-map, Stmts, matches, refusals_of, Task, Scripted, task, Scenario, view_of, View, ViewOf, IsLanding, Outcome, IsExpected, AreOutcomes, Class, Landing, NoArm, Arm, Outline, IsListed, KeepsToRole, OnScripted, Place, places_of, class_number, outline_of, IsMadeFor, IsScripted, IsRow, OutlineBy, Spot, place_of, IsUnarmed, IsInRange}
+use Rattle.pr_verify.proofs.Common.{◌≡◌, ℕ, ◌+◌, ◌<◌, ◌≤◌, Bool, true, false, ◌⊎◌, ◌↔◌, List, [], ◌∷◌, ◌++◌, map, length, get_or, take, IsTrue, slice_index_or, Some, None, All, Contains, Option, AllPairs, sym, refl, ap, ◌∙◌, subst, inl, inr, arith, AllZip, cases_lt, All-map, Contains-append_left, position-Some, map-map, Stmts, matches, refusals_of, Task, Scripted, task, Scenario, view_of, View, ViewOf, IsLanding, Outcome, IsExpected, AreOutcomes, Class, Landing, NoArm, Arm, Outline, IsListed, KeepsToRole, OnScripted, Place, places_of, class_number, outline_of, IsMadeFor, IsScripted, IsRow, OutlineBy, Spot, place_of, IsUnarmed, IsInRange}
 use Rattle.std.specs.List.{filter, range_with_len}
-use Rattle.std.proofs.lemmas.List.{map-append, map-id, take_more}
+use Rattle.std.proofs.lemmas.List.{map-append, map-id, take_more, append-nil}
 use Rattle.std.proofs.lemmas.List.FromFn.{map-range_with_len_more}
 use Rattle.std.proofs.lemmas.List.Elements.{All-push, filter-append, Contains-push, Contains-push_cases, Contains-get_or}
+use Rattle.std.proofs.SliceLists.{all_zipped_more}
 use Rattle.std.proofs.lemmas.List.Quantifiers.{all_pairs_push}
 use Rattle.pr_script.specs.declared.script.Test.TheVariants as test
 use Rattle.pr_sets.specs.declared.view_set.ViewSet.{Ghosts as ViewSet}
@@ -164,25 +165,15 @@ module _ (s : Scenario) (o : Outline) (p : Place) (v : View) (here : IsHere o p 
 
 -- ---- rows, one after another
 
-pub zip_push : {A B : Type 0} (R : A → B → Type 0) (xs : List A) (ys : List B) (x : A) (y : B) → AllZip R xs ys → R x y → AllZip R (xs ++ x ∷ []) (ys ++ y ∷ [])
-zip_push R [] [] x y all one = (one, tt)
-zip_push R (a ∷ xs) (b ∷ ys) x y all one = (all.0, zip_push R xs ys x y all.1 one)
-zip_push R _ _ x y all one = absurd all
-
 pub zip_more : {A B : Type 0} (R : A → B → Type 0) (xs : List A) (ys : List B) (i : ℕ) (x : A) (y : B) → i < length xs → x ≡ get_or xs i x → AllZip R (take i xs) ys → R x y
     → AllZip R (take (i + 1) xs) (ys ++ y ∷ [])
 zip_more R xs ys i x y small read all one =
-    subst (λ l. AllZip R l (ys ++ y ∷ [])) (ap (λ z. take i xs ++ z ∷ []) read ∙ sym (take_more xs i x small)) (zip_push R (take i xs) ys x y all one)
+    subst (λ l. AllZip R l (ys ++ y ∷ [])) (ap (λ z. take i xs ++ z ∷ []) read ∙ sym (take_more xs i x small)) (all_zipped_more R (take i xs) ys x y all one)
 
 pub zip_map : {A B C D : Type 0} (R : C → D → Type 0) (f : A → C) (g : B → D) (xs : List A) (ys : List B) → AllZip (λ x y. R (f x) (g y)) xs ys → AllZip R (map f xs) (map g ys)
 zip_map R f g [] [] all = tt
 zip_map R f g (x ∷ xs) (y ∷ ys) all = (all.0, zip_map R f g xs ys all.1)
 zip_map R f g _ _ all = absurd all
-
-pub zip_length : {A B : Type 0} (R : A → B → Type 0) (xs : List A) (ys : List B) → AllZip R xs ys → length ys ≡ length xs
-zip_length R [] [] all = refl
-zip_length R (x ∷ xs) (y ∷ ys) all = ap suc (zip_length R xs ys all.1)
-zip_length R _ _ all = absurd all
 
 -- ---- tables, host by host
 
@@ -215,10 +206,6 @@ module _ (p : ℕ → Bool) (n : ℕ) where
     where
       none : filter p (n ∷ []) ≡ []
       none = rw is refl
-
-      append-nil : (l : List ℕ) → l ++ [] ≡ l
-      append-nil [] = refl
-      append-nil (x ∷ xs) = ap (λ ys. x ∷ ys) (append-nil xs)
 
 -- ---- one table more, or none
 

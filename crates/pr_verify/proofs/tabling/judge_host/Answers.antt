@@ -1,4 +1,5 @@
 use Rattle.pr_verify.proofs.Common.{◌≡◌, ℕ, ◌<◌, List, map, length, Some, sym, ap, ◌∙◌, subst, AllZip, rise_above, script_of, Scripted, task, scenario_of, ViewOf, IsLeastSound, IsListed, OnScripted, Place, outline_of, row_of, IsRow, Spot, place_of, AreWritten}
+use Rattle.std.proofs.lemmas.Slice.Zip.{AllZip-long}
 use Rattle.pr_sets.specs.declared.word_set.WordSet.{WordSet}
 use Rattle.pr_verify.specs.Tables.{IsTable}
 use Rattle.pr_verify.specs.declared.table.Row.{Row}
@@ -8,7 +9,7 @@ use Rattle.pr_verify.proofs.lemmas.Reviewing.Findings.{spots_rise, spots_written
 use Rattle.pr_verify.proofs.lemmas.Outlines.LineOrder.{as_many}
 use Rattle.pr_verify.proofs.lemmas.Rooms.Scripts.{on_scripted}
 use Rattle.pr_verify.proofs.lemmas.Tabling.Judgements.{scripted_is, judgement}
-use Rattle.pr_verify.proofs.lemmas.Tabling.Rows.{of_script, lines_listed, zip_map, zip_length}
+use Rattle.pr_verify.proofs.lemmas.Tabling.Rows.{of_script, lines_listed, zip_map}
 use Rattle.pr_verify.proofs.tabling.judge_host.Goals as goal
 
 pub invariant_of-questions-clause-declared : goal.invariant_of-questions-clause-declared
@@ -58,7 +59,7 @@ invariant_of-result c =
     (of_script (task s c.args.host) script (λ b. IsListed b (outline_of c.in_ok-outline.outline)) c.requires c.script_in-script.ensures.script c.in_ok-outline.ensures.listed) in
     let R = λ (p : Spot) (r : Row). IsRow (scenario_of c.args.scenario.now) o (place_of p) (row_of r) in
     record {
-      each = zip_length R c.deref.result.now c.in_ok-rows.rows.items c.in_ok-rows.ensures.rows ∙ ap length c.deref.ensures.value
+      each = AllZip-long R c.deref.result.now c.in_ok-rows.rows.items c.in_ok-rows.ensures.rows ∙ ap length c.deref.ensures.value
           ∙ sym (as_many (λ (p : Spot). p.line) c.in_ok-outline.outline.views.items spots listed);
     }
 

@@ -1,11 +1,11 @@
 use Rattle.pr_verify.proofs.Common.{ℕ, ◌≤◌, ◌≢◌, IfErr, Some, sym, refl, ap, ◌∙◌, subst, arith, rules, err_from_is_err_and, cost_of_all, Stmts, script_of, task, task_of, scenario_of, IsLeastSound, HasOutline, OnScripted, SendsFit, IsRefusal, outline_of, IsScripted, Refusal}
-use Rattle.std.proofs.lemmas.Result.{IfErr-weaker}
+use Rattle.std.proofs.lemmas.Result.{IfErr-weaker, on_ok_weaker}
 use Rattle.pr_roles.proofs.lemmas.Scenarios.Nexuses.{scripted_task, scripted_fits, task_read}
 use Rattle.pr_verify.specs.declared.refusal.Refusal.TheVariants.{Memory}
 use Rattle.pr_verify.specs.Verdicts.{HasReason}
 use Rattle.pr_verify.proofs.lemmas.Verdicts.Reasons.{has_reason}
 use Rattle.pr_verify.proofs.lemmas.Rooms.Scripts.{on_script}
-use Rattle.pr_verify.proofs.lemmas.Outlines.Checks.{has_outline, one_ok}
+use Rattle.pr_verify.proofs.lemmas.Outlines.Checks.{has_outline}
 use Rattle.pr_verify.proofs.verifying.check_host.Goals as goal
 
 pub check_cost-requires : goal.check_cost-requires
@@ -37,7 +37,7 @@ returns-in_ok-outline-in-Scripted-clause-outline c =
     let is = scripted_task s host c.nexus_in.result.now c.nexus_in.ensures.nexus c.in-Scripted.script budget c.in-Scripted.is in
     let o = outline_of c.in_ok-outline-in-Scripted.outline in
     let least = subst (λ t. OnScripted t (λ b n. IsLeastSound s b o)) is c.in_ok-outline-in-Scripted.ensures.least in
-    one_ok c.check_fit.result
+    on_ok_weaker c.check_fit.result
     (λ fitting. on_script (task s host) script budget (HasOutline s host) is
     (has_outline s host script budget c.in_ok-outline-in-Scripted.ensures.host least.sound (fitting budget c.in_ok-check_cost-in-Scripted.ensures.within))) c.check_fit.ensures.fitting
 
@@ -48,7 +48,7 @@ returns-in_ok-outline-in-Scripted-clause-fields c =
     let script = script_of c.in-Scripted.script in
     let budget = c.in-Scripted.budget in
     let is = scripted_task s host c.nexus_in.result.now c.nexus_in.ensures.nexus c.in-Scripted.script budget c.in-Scripted.is in
-    one_ok c.check_fit.result (on_script (task s host) script budget (λ (b : Stmts) (n : ℕ). SendsFit b) is) c.check_fit.ensures.fields
+    on_ok_weaker c.check_fit.result (on_script (task s host) script budget (λ (b : Stmts) (n : ℕ). SendsFit b) is) c.check_fit.ensures.fields
 
 pub returns-in-Planned-clause-outline : goal.returns-in-Planned-clause-outline
 returns-in-Planned-clause-outline c =

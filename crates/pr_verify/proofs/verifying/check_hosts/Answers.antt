@@ -1,5 +1,4 @@
-use Rattle.pr_verify.proofs.Common.{IfErr, sym, subst, arith, err_from_is_err_and, task, scenario_of, are_counted, HasOutline, OnScripted, SendsFit, IsVerdict}
-use Rattle.pr_verify.proofs.lemmas.Outlines.Checks.{below_next}
+use Rattle.pr_verify.proofs.Common.{IfErr, sym, subst, arith, err_from_is_err_and, task, scenario_of, are_counted, HasOutline, OnScripted, SendsFit, IsVerdict, below_more}
 use Rattle.pr_verify.proofs.lemmas.Verdicts.Reasons.{is_verdict}
 use Rattle.pr_verify.proofs.verifying.check_hosts.Goals as goal
 
@@ -15,8 +14,8 @@ check_host-requires c = let all = (are_counted c.args.scenario.now c.parts.resul
 pub loop-host-preserved : goal.loop-host-preserved
 loop-host-preserved c =
     let s = scenario_of c.args.scenario.now in (
-      below_next (λ h. OnScripted (task s h) (HasOutline s h)) c.loop-host.host c.loop-host.invariant.0 c.in_ok-check_host.ensures.outline,
-      below_next (λ h. OnScripted (task s h) (λ script budget. SendsFit script)) c.loop-host.host c.loop-host.invariant.1 c.in_ok-check_host.ensures.fields,
+      below_more (λ h. OnScripted (task s h) (HasOutline s h)) c.loop-host.host c.loop-host.invariant.0 c.in_ok-check_host.ensures.outline,
+      below_more (λ h. OnScripted (task s h) (λ script budget. SendsFit script)) c.loop-host.host c.loop-host.invariant.1 c.in_ok-check_host.ensures.fields,
     )
 
 pub returns-clause-outlines : goal.returns-clause-outlines
