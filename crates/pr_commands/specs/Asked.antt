@@ -2,7 +2,8 @@
 -- The ends that are asked for: NAME=WORD, or NAME=trapped:LINE.
 use Rattle.std.specs.Prelude.{ℕ, ◌+◌, ◌==◌, ◌&&◌, Bool, true, false, if◌then◌else◌, List, [], ◌∷◌, length, take, drop, codes, map, replicate, slice_index_or, slice_set, Option, Some, None, option_map, option_and_then}
 use Rattle.std.specs.List.{position}
-use Rattle.pr_roles.specs.Scenarios.{Scenario, Task, Scripted, Planned, task}
+use Rattle.pr_roles.specs.Scenarios.{Scenario, task}
+use Rattle.pr_roles.specs.Tasks.{has_script}
 use Rattle.pr_audit.specs.declared.end.End.{End}
 use Rattle.pr_lines.specs.WordTerms.{amount_of, name_of, value_after}
 use Rattle.pr_trace.specs.TraceReadings.{number_of}
@@ -28,11 +29,6 @@ ask_at names word i = option_and_then (with_exit (drop (i + 1) word)) (number_of
 
 unfoldable pub ask_of : List (List ℕ) → List ℕ → Option (ℕ × Exit)
 ask_of names word = option_and_then (ask_at names word) (position (λ b. b == EQUALS) word)
-
-abbrev pub has_script : Option Task → Bool
-has_script None = false
-has_script (Some (Scripted script budget)) = true
-has_script (Some (Planned commands)) = false
 
 abbrev pub is_free : Option Exit → Bool
 is_free None = true

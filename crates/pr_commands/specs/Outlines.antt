@@ -2,7 +2,8 @@
 -- What `fence outline` writes.
 use Rattle.std.specs.Prelude.{◌≡◌, ℕ, Bool, false, List, Option, Result}
 use Rattle.pr_roles.specs.Scenarios.{Scenario}
-use Rattle.pr_verify.specs.Tables.{Table, AreTables}
+use Rattle.pr_views.specs.Tables.{Table}
+use Rattle.pr_verify.specs.Tables.{AreTables}
 use Rattle.pr_text.specs.Reading.{IsWrittenAs}
 use Rattle.pr_trace.specs.TraceText.{names_in}
 use Rattle.pr_report.specs.OutlineText.{outlines_text}

@@ -7,7 +7,7 @@ use Rattle.pr_roles.specs.Scenarios.{Scenario}
 use Rattle.pr_roles.specs.Safety.{IsSafe}
 use Rattle.pr_roles.specs.Worlds.{commands_by}
 use Rattle.pr_text.specs.Reading.{IsWrittenAs}
-use Rattle.pr_verify.specs.declared.refusal.Refusal.{Refusal}
+use Rattle.pr_roles.specs.declared.refusal.Refusal.{Refusal}
 use Rattle.pr_verify.specs.Verdicts.{IsFirstReason}
 use Rattle.pr_audit.specs.Ends.{ending_of}
 use Rattle.pr_shared.specs.declared.outcome.Outcome.{Outcome}

@@ -10,7 +10,7 @@ use Rattle.pr_report.specs.declared.verdict.Verdict.{Verdict}
 use Rattle.pr_report.specs.declared.verdict.Verdict.TheVariants.{Accepted, Refused, Legal, Illegal}
 use Rattle.pr_table.specs.TableText.{host_table_text}
 use Rattle.pr_commands.specs.declared.fault.Fault.{Fault}
-use Rattle.pr_commands.specs.Asked.{has_script}
+use Rattle.pr_roles.specs.Tasks.{has_script}
 use Rattle.pr_commands.specs.Checks.{Holds}
 use Rattle.pr_commands.specs.Endings.{Outputs}
 

@@ -5,7 +5,7 @@ use Rattle.std.specs.Fmt.{decimal}
 use Rattle.pr_roles.specs.Scenarios.{Scenario}
 use Rattle.pr_roles.specs.Safety.{IsSafe}
 use Rattle.pr_text.specs.Reading.{IsWrittenAs}
-use Rattle.pr_verify.specs.declared.refusal.Refusal.{Refusal}
+use Rattle.pr_roles.specs.declared.refusal.Refusal.{Refusal}
 use Rattle.pr_verify.specs.Verdicts.{IsFirstReason}
 use Rattle.pr_output.specs.PrintedLines.{line}
 use Rattle.pr_trace.specs.TraceText.{names_in}

@@ -6,13 +6,14 @@ ghost use Rattle.pr_cdb.specs.declared.codes.TheConstants.{MOST_NEXUSES};
 ghost use Rattle.pr_roles.specs.Scenarios.{scenario_of, task};
 ghost use Rattle.pr_trace.specs.TraceText.{names_of};
 ghost use Rattle.pr_explore.specs.Together.{exit_in};
-ghost use Rattle.pr_commands.specs.Asked.{ask_of, asks_of, exit_asked, exits_of, has_script, is_free};
+ghost use Rattle.pr_roles.specs.Tasks.{has_script};
+ghost use Rattle.pr_commands.specs.Asked.{ask_of, asks_of, exit_asked, exits_of, is_free};
 ghost use Rattle.pr_commands.specs.Steps.{texts_of};
 ghost use Rattle.pr_commands.specs.declared.asked.TheConstants.{EQUALS};
 
 use pr_audit::End;
 use pr_lines::{amount_of, name_of, value_after};
-use pr_roles::{Nexus, Scenario, Task};
+use pr_roles::{Nexus, Scenario, has_script};
 use pr_trace::number_of;
 use std::alloc::{AllocError, Global};
 
@@ -55,16 +56,6 @@ fn nothing_asked(alloc: Global, count: usize) -> Result<Vec<Option<End>>, AllocE
         asked.push(None)?;
     }
     Ok(asked)
-}
-
-/// Whether the nexus with this number is a host that has a script.
-pub(crate) fn has_script(scenario: &Scenario, host: u8) -> bool
-    ensures { result ≡ has_script (task (scenario_of scenario.now) host) }
-{
-    match scenario.parts().nexuses.get(usize::from(host)) {
-        Some(nexus) => matches!(nexus.task, Task::Scripted { .. }),
-        None => false,
-    }
 }
 
 // Whether nothing was asked of the host yet.

@@ -2,7 +2,7 @@
 
 ghost use Rattle.std.specs.Prelude.{◌≡◌, ◌+◌, IfSome};
 ghost use Rattle.pr_roles.specs.Scenarios.{scenario_of, task};
-ghost use Rattle.pr_verify.specs.Rooms.{IsScripted};
+ghost use Rattle.pr_roles.specs.Tasks.{IsScripted};
 ghost use Rattle.pr_text.specs.declared.text.TheConstants.{MOST_BYTES};
 ghost use Rattle.pr_text.specs.BytesRead.{LosesUpTo};
 ghost use Rattle.pr_output.specs.Written.{Writes};
@@ -11,13 +11,12 @@ ghost use Rattle.pr_commands.specs.Tables.{EndsTable, scripted_host};
 ghost use Rattle.pr_commands.specs.inside.JudgedHosts.{IsJudgedFor, answered_text, scenario_in};
 ghost use Rattle.pr_commands.specs.inside.Judgements.{Stands};
 
-use crate::asked::has_script;
 use crate::checks::settled;
 use crate::ending::ended;
 use crate::fault::{ExitStatus, Fault};
 use pr_output::WriteFault;
 use pr_report::{Verdict, write_verdict};
-use pr_roles::Scenario;
+use pr_roles::{Scenario, has_script};
 use pr_table::write_table;
 use pr_text::read;
 use pr_trace::number_of;

@@ -16,11 +16,11 @@ ghost use Rattle.pr_domain.specs.inside.Beginning.{AreAmong, stays, registration
 
 use pr_attention::{Attention, Pending};
 use pr_cdb::codes::MOST_NEXUSES;
-use pr_regions::{kept, number_in, reservation_number};
+use pr_regions::{kept, number_in};
 use pr_registry::Held;
 use pr_roles::{Nexus, Parts, Scenario};
 use pr_sets::{BitSet, ViewSet, Wide};
-use pr_views::{ATTENTION_SETS, Possibilities, ViewOf, is_among};
+use pr_views::{ATTENTION_SETS, Possibilities, ViewOf, is_among, reservation_number};
 use std::alloc::{AllocError, Global};
 
 /// The view of the states that the scenario may start from: it shows each of them, and has nothing that is so in none.

@@ -3,9 +3,9 @@
 ghost use Rattle.std.specs.Prelude.{◌<◌, IsTrue, IfSome};
 ghost use Rattle.pr_domain.specs.inside.Twins.{AreTwins, IsTwin};
 
-use pr_regions::{Place, reservation_at};
+use pr_regions::Place;
 use pr_registry::Held;
-use pr_views::Possibilities;
+use pr_views::{Possibilities, reservation_at};
 
 /// The first reservation of the view that has the same holders as that of the place, if it comes before it.
 pub(crate) fn twin_of(place: &Place, view: &Possibilities) -> Option<u8>

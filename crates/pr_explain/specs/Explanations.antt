@@ -4,7 +4,7 @@ use Rattle.std.specs.Prelude.{◌≡◌, Bool, true, false, map, IfSome}
 use Rattle.pr_roles.specs.declared.parts.Parts.{Parts}
 use Rattle.pr_roles.specs.Scenarios.{Scenario}
 use Rattle.pr_roles.specs.Safety.{IsSafe}
-use Rattle.pr_verify.specs.Rooms.{table_of}
+use Rattle.pr_views.specs.Tables.{table_of}
 use Rattle.pr_verify.specs.Tables.{AreTables}
 use Rattle.pr_verify.specs.Verdicts.{IsFirstReason}
 use Rattle.pr_witness.specs.Breaches.{IsFound}

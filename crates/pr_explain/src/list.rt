@@ -2,10 +2,9 @@
 
 use crate::fact::Fact;
 use pr_cdb::codes::MOST_NEXUSES;
-use pr_regions::reservation_at;
 use pr_roles::key_at;
 use pr_sets::{BIT_SET_SIZE, BitSet, MOST, Wide};
-use pr_views::{Possibilities, View, count_of_reservations};
+use pr_views::{Possibilities, View, count_of_reservations, reservation_at};
 
 /// A list of what may be so of one thing, each item by its number in a view.
 #[derive(Clone, Copy)]

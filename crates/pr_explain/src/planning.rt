@@ -4,7 +4,7 @@ ghost use Rattle.std.specs.Prelude.{◌≡◌, ◌↔◌, false, true, map, IfOk
 ghost use Rattle.pr_roles.specs.Safety.{IsSafe};
 ghost use Rattle.pr_roles.specs.Scenarios.{scenario_of};
 ghost use Rattle.pr_verify.specs.Outlines.{HaveOutlines};
-ghost use Rattle.pr_verify.specs.Rooms.{table_of};
+ghost use Rattle.pr_views.specs.Tables.{table_of};
 ghost use Rattle.pr_verify.specs.Tables.{AreTables};
 ghost use Rattle.pr_verify.specs.Verdicts.{IsFirstReason};
 ghost use Rattle.pr_witness.specs.Ends.{AreEnds};

@@ -3,10 +3,9 @@
 use pr_attention::Attention;
 use pr_cdb::codes::MOST_NEXUSES;
 use pr_output::{Token, WriteFault, put, put_spaced};
-use pr_regions::reservation_at;
 use pr_roles::Nexus;
 use pr_sets::{ViewSet, WordSet};
-use pr_views::{ATTENTION_SETS, View, is_among};
+use pr_views::{ATTENTION_SETS, View, is_among, reservation_at};
 use pr_words::saying::{Part, name, say};
 use pr_words::{put_held, put_sense};
 use std::io::Write;

@@ -14,10 +14,10 @@ ghost use Rattle.pr_regions.specs.Conditions.{holds_as, is_holder_as};
 ghost use Rattle.pr_interference.specs.inside.Reaching.{AreHolders, HasReservation, IsHeldAmong};
 
 use pr_cdb::Kind;
-use pr_regions::reservation_number;
 use pr_registry::Held;
 use pr_roles::Condition;
 use pr_sets::{BitSet, Wide};
+use pr_views::reservation_number;
 
 /// Who may hold the reservation: by it, what is asked of all reservations of a form is asked of a word.
 #[derive(Clone, Copy)]

@@ -26,13 +26,13 @@ use crate::reach::{
 };
 use pr_cdb::Kind;
 use pr_cdb::codes::MOST_NEXUSES;
-use pr_regions::{every_key, number_in, reservation_number};
+use pr_regions::{every_key, number_in};
 use pr_registry::new_reservation;
 use pr_roles::{Action, Clause};
 use pr_sets::{BitSet, Wide};
 use pr_views::{
     Possibilities, REGISTRATIONS_PREEMPTED_BIT, RESERVATIONS_PREEMPTED_BIT,
-    RESERVATIONS_RELEASED_BIT,
+    RESERVATIONS_RELEASED_BIT, reservation_number,
 };
 
 impl Onlooker<'_> {

@@ -11,7 +11,6 @@ ghost use Rattle.pr_regions.specs.inside.Parts.{AlwaysEnds, EndsFor, told_if, ho
 
 use crate::conditions::is_holder_as;
 use crate::initiator::Initiator;
-use crate::numbers::reservation_number;
 use crate::purpose::{Purpose, Standing};
 use crate::region::{Ending, Transition};
 use crate::words::every_key;
@@ -23,6 +22,7 @@ use pr_cdb::codes::{
 use pr_registry::{Held, is_for_registrants, is_held_by_all, is_kind, kind_of, new_reservation};
 use pr_sets::BitSet;
 use pr_unit::illegal;
+use pr_views::reservation_number;
 
 // Whether a sender whose registration matches so holds the reservation.
 fn holds(held: Held, sender: u8, standing: Standing) -> bool

@@ -5,13 +5,12 @@ ghost use Rattle.pr_cdb.specs.declared.codes.TheConstants.{MOST_NEXUSES};
 ghost use Rattle.pr_roles.specs.Fitting.{is_reservation};
 ghost use Rattle.pr_views.specs.Possibilities.{number_of, count_of_reservations};
 
-use crate::numbers::reservation_at;
 use crate::region::Region;
 use crate::words::every_key;
 use pr_cdb::codes::MOST_NEXUSES;
 use pr_registry::Held;
 use pr_sets::BitSet;
-use pr_views::{Portion, Possibilities};
+use pr_views::{Portion, Possibilities, reservation_at};
 
 /// One reservation of a view, and who sends a command under it.
 ///

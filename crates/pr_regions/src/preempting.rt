@@ -12,13 +12,13 @@ ghost use Rattle.pr_regions.specs.inside.Parts.{TellPreempted, only, is_named, t
 use crate::branching::{ending_everywhere, three, two};
 use crate::endings::{change_to_reservation, new_change};
 use crate::initiator::Preemption;
-use crate::numbers::reservation_number;
 use crate::region::{Branch, Ending, Region, Transition};
 use crate::words::{another_than, anything_but, free_or};
 use arrayvec::ArrayVec;
 use pr_cdb::Kind;
 use pr_registry::{Held, is_kind};
 use pr_sets::BitSet;
+use pr_views::reservation_number;
 
 // What changes where the key is the single holder's, which holds by this type: the reservation is replaced.
 fn replacement_change(asked: Preemption, old: Kind) -> Transition

@@ -9,7 +9,7 @@ pub use Rattle.pr_roles.specs.declared.parts.Parts.{Parts}
 pub use Rattle.pr_roles.specs.Keys.{key_at}
 pub use Rattle.pr_views.specs.Possibilities.{number_of, count_of_attentions}
 pub use Rattle.pr_views.specs.Rooms.{view_of}
-pub use Rattle.pr_verify.specs.Rooms.{row_of}
+pub use Rattle.pr_views.specs.Tables.{row_of}
 pub use Rattle.pr_report.specs.OutlineText.{free_or_key, codes_in, sends_text}
 unfoldable pub use Rattle.pr_report.specs.OutlineText.{registration_line, send_text}
 unfoldable pub use Rattle.pr_output.specs.Printed.{printed_word}

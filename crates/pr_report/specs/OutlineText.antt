@@ -16,7 +16,7 @@ use Rattle.pr_script.specs.declared.landing.Class.{Class}
 use Rattle.pr_roles.specs.Keys.{key_at}
 use Rattle.pr_views.specs.Possibilities.{number_of, count_of_attentions}
 use Rattle.pr_views.specs.Views.{View}
-use Rattle.pr_verify.specs.Tables.{Row, Table}
+use Rattle.pr_views.specs.Tables.{Row, Table}
 use Rattle.pr_output.specs.PrintedLines.{line, key_word, class_word, attentions_word}
 use Rattle.pr_report.specs.ScenarioWords.{command_words, test_words}
 use Rattle.pr_trace.specs.TraceText.{name_of, held_word}

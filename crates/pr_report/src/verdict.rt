@@ -10,10 +10,9 @@ ghost use Rattle.pr_trace.specs.TraceText.{names_of, names_under};
 ghost use Rattle.pr_report.specs.Verdicts.{IsReason, IsVerdict, is_refusal, no_arm_words, over_budget_words, place_words, reason_words, verdict_text};
 
 use pr_output::{Token, WriteFault, put_line};
-use pr_roles::{Nexus, Scenario};
+use pr_roles::{Nexus, Refusal, Scenario};
 use pr_script::Class;
 use pr_trace::name_of;
-use pr_verify::Refusal;
 use std::io::Write;
 
 /// What a check of a scenario comes to, or an audit of a history of it.

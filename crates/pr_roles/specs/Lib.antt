@@ -1,6 +1,7 @@
 pub mod Keys
 pub mod Permits
 pub mod Scenarios
+pub mod Tasks
 pub mod Starts
 pub mod FirstStarts
 pub mod Limits

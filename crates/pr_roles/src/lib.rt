@@ -17,6 +17,7 @@ pub mod limits;
 mod nexus;
 mod parts;
 mod permitting;
+mod refusal;
 mod role;
 mod scenario;
 mod step;
@@ -33,10 +34,11 @@ pub use laws::{
     refusals_are_counted, refusals_are_declared, resets_are_counted, resets_are_declared,
     runs_go_on, safe_sends_are_fine, starts_are_found,
 };
-pub use nexus::nexus_in;
+pub use nexus::{has_script, nexus_in};
 pub use parts::{Nexus, Parts, Start, Task};
 pub use permitting::{clause_permits, is_always_permitted, names, permits};
 pub use pr_script::Word;
+pub use refusal::Refusal;
 pub use role::{Action, Clause, Condition, Role};
 pub use scenario::{Scenario, first_start};
 pub use step::Step;

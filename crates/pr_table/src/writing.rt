@@ -6,7 +6,7 @@ ghost use Rattle.pr_cdb.specs.Spelling.{spelling};
 ghost use Rattle.pr_script.specs.Trees.{script_of, statement_of, statements_in};
 ghost use Rattle.pr_script.specs.inside.ArmLists.{arms_in};
 ghost use Rattle.pr_roles.specs.Scenarios.{scenario_of, task};
-ghost use Rattle.pr_verify.specs.Rooms.{IsScripted};
+ghost use Rattle.pr_roles.specs.Tasks.{IsScripted};
 ghost use Rattle.pr_output.specs.Printed.{printed_words};
 ghost use Rattle.pr_output.specs.Written.{Writes};
 ghost use Rattle.pr_report.specs.OutlineText.{indented_line};

@@ -52,18 +52,20 @@ pub use Rattle.pr_domain.proofs.lemmas.Starting.WrittenNumbers.{are_counted}
 pub use Rattle.pr_permission.specs.Permission.{IsPermittedIn, IsRefusedIn}
 pub use Rattle.pr_interference.specs.Interference.{IsDone, Becomes, by_another, by_reset, IsClosed, IsClosure}
 pub use Rattle.pr_verify.specs.LeastOutlines.{IsWithinIn, IsNoMore, IsLeastSound}
-pub use Rattle.pr_verify.specs.Outlines.{Outline, view_at, ShowsIn, IsShownAt, scope_in, IsOfScenario, StartsAt, ComesTo, IsLeftAt, IsAsked, at_start, by_itself, by_others, IsListed, IsSound, KeepsToRole, IsFitting, HasOutline, OnScripted, HaveOutlines, SendsFit}
+pub use Rattle.pr_views.specs.Tables.{Outline, outline_of, row_of}
+pub use Rattle.pr_verify.specs.Outlines.{view_at, ShowsIn, IsShownAt, scope_in, IsOfScenario, StartsAt, ComesTo, IsLeftAt, IsAsked, at_start, by_itself, by_others, IsListed, IsSound, KeepsToRole, IsFitting, HasOutline, OnScripted, HaveOutlines, SendsFit}
 pub use Rattle.pr_verify.specs.Places.{out_of, head_of, head_of_all, first_of, round, Place, tests_of, next_of, place, places_in, places, places_of_arms, places_of, first_lines, follows}
 pub use Rattle.pr_verify.specs.Refusals.{first_difference, BreaksRole, class_number, FitsAt, IsRefusal}
-pub use Rattle.pr_verify.specs.Rooms.{outline_of, IsMadeFor, IsScripted, row_of}
+pub use Rattle.pr_roles.specs.Tasks.{IsScripted}
+pub use Rattle.pr_verify.specs.Rooms.{IsMadeFor}
 pub use Rattle.pr_verify.specs.Tables.{IsRow}
 pub use Rattle.pr_verify.specs.Verdicts.{IsVerdict}
 pub use Rattle.pr_verify.specs.declared.inferring.Inference.{Inference}
 pub use Rattle.pr_verify.specs.declared.known.Answer.{Answer}
 pub use Rattle.pr_verify.specs.declared.known.Closing.{Closing}
-pub use Rattle.pr_verify.specs.declared.outline.OutlineBy.{OutlineBy}
+pub use Rattle.pr_views.specs.declared.outline.OutlineBy.{OutlineBy}
 pub use Rattle.pr_verify.specs.declared.places.Spot.{Spot}
-pub use Rattle.pr_verify.specs.declared.refusal.Refusal.{Refusal}
+pub use Rattle.pr_roles.specs.declared.refusal.Refusal.{Refusal}
 pub use Rattle.pr_verify.specs.declared.sketch.Sketch.{Sketch}
 pub use Rattle.pr_verify.specs.inside.Asked.{IsAnswerTo, AreAnswersTo}
 pub use Rattle.pr_verify.specs.inside.Checks.{IsAnswerFor, IsBegunFor, IsCheckFor, EachFrom, IsAnswerBefore}

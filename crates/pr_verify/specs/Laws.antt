@@ -4,7 +4,7 @@ use Rattle.std.specs.Prelude.{ℕ}
 use Rattle.pr_roles.specs.Scenarios.{Scenario}
 use Rattle.pr_roles.specs.Safety.{IsSafe}
 use Rattle.pr_script.specs.Scripts.{Stmts}
-use Rattle.pr_verify.specs.declared.refusal.Refusal.{Refusal}
+use Rattle.pr_roles.specs.declared.refusal.Refusal.{Refusal}
 use Rattle.pr_verify.specs.Outlines.{AllSendsFit, HasOutline, HaveOutlines}
 use Rattle.pr_verify.specs.Verdicts.{IsReasonAgainst}
 

@@ -4,7 +4,8 @@ use Rattle.std.specs.Prelude.{◌≡◌, ℕ, Option, Some, None}
 use Rattle.pr_script.specs.Scripts.{Stmts}
 use Rattle.pr_roles.specs.Scenarios.{Scenario}
 use Rattle.pr_views.specs.Views.{View, Within}
-use Rattle.pr_verify.specs.Outlines.{Outline, view_at, IsSound}
+use Rattle.pr_views.specs.Tables.{Outline}
+use Rattle.pr_verify.specs.Outlines.{view_at, IsSound}
 
 -- there is a view, and what is possible in the first is possible in it
 abbrev pub IsWithinIn : View → Option View → Type 0

@@ -17,13 +17,9 @@ use Rattle.pr_roles.specs.Scenarios.{Scenario, Task, Scripted, Planned, role, ta
 use Rattle.pr_roles.specs.Starts.{IsAllowedStart}
 use Rattle.pr_views.specs.Possibilities.{Scope}
 use Rattle.pr_views.specs.Views.{View, Shows}
+use Rattle.pr_views.specs.Tables.{Outline}
 use Rattle.pr_interference.specs.Interference.{Becomes}
 use Rattle.pr_verify.specs.Places.{Place, places_of, first_lines, follows}
-
--- the views of a host, each by the line of its send
-pub record Outline : Type 0 where
-  pub host : ℕ
-  pub views : List (ℕ × View)
 
 -- the view at this line
 abbrev pub view_at : List (ℕ × View) → ℕ → Option View

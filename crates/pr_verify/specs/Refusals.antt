@@ -18,10 +18,11 @@ use Rattle.pr_roles.specs.Permits.{command_permitted}
 use Rattle.pr_roles.specs.Scenarios.{Scenario, role}
 use Rattle.pr_regions.specs.Readings.{first_test}
 use Rattle.pr_domain.specs.Landings.{IsClass}
-use Rattle.pr_verify.specs.declared.refusal.Refusal.{Refusal}
-use Rattle.pr_verify.specs.declared.refusal.Refusal.TheVariants.{NoArm, OutOfRole, OverBudget, Memory, NotSound}
+use Rattle.pr_roles.specs.declared.refusal.Refusal.{Refusal}
+use Rattle.pr_roles.specs.declared.refusal.Refusal.TheVariants.{NoArm, OutOfRole, OverBudget, Memory, NotSound}
 use Rattle.pr_verify.specs.Places.{Place, places_of}
-use Rattle.pr_verify.specs.Outlines.{Outline, IsShownAt, IsAsked, IsListed, IsSound, HasArms, KeepsToRole}
+use Rattle.pr_views.specs.Tables.{Outline}
+use Rattle.pr_verify.specs.Outlines.{IsShownAt, IsAsked, IsListed, IsSound, HasArms, KeepsToRole}
 
 -- one more than the greatest budget: what costs more is not counted on
 abbrev pub past_budgets : ℕ

@@ -1,23 +1,17 @@
 -- Agrees with docs/VERDICTS.md, 'Why: `fence outline`'.
--- The outline and the table that values of the program are.
-use Rattle.std.specs.Prelude.{◌≡◌, ℕ, List, length, map, Option, Some, None}
+-- What holds of the outlines and tables that values of the program are.
+use Rattle.std.specs.Prelude.{◌≡◌, ℕ, List, length}
 use Rattle.std.specs.List.{All}
 use Rattle.pr_sets.specs.declared.view_set.ViewSet.{Ghosts as ViewSet}
 use Rattle.pr_views.specs.declared.view.ViewOf.{ViewOf}
-use Rattle.pr_views.specs.Rooms.{view_of}
-use Rattle.pr_roles.specs.Scenarios.{Scenario, Task, Scripted, Planned, task}
-use Rattle.pr_verify.specs.declared.outline.OutlineBy.{OutlineBy}
-use Rattle.pr_verify.specs.declared.refusal.Refusal.{Refusal}
-use Rattle.pr_verify.specs.declared.table.Row.{Row as KeptRow}
-use Rattle.pr_verify.specs.declared.table.Table.{Table as KeptTable}
-use Rattle.pr_verify.specs.Outlines.{Outline, OnScripted, IsListed, IsSound, IsFitting}
+use Rattle.pr_roles.specs.Scenarios.{Scenario, task}
+use Rattle.pr_views.specs.declared.outline.OutlineBy.{OutlineBy}
+use Rattle.pr_roles.specs.declared.refusal.Refusal.{Refusal}
+use Rattle.pr_views.specs.declared.table.Table.{Table as KeptTable}
+use Rattle.pr_views.specs.Tables.{outline_of}
+use Rattle.pr_verify.specs.Outlines.{OnScripted, IsListed, IsSound, IsFitting}
 use Rattle.pr_verify.specs.LeastOutlines.{IsLeastSound}
 use Rattle.pr_verify.specs.Refusals.{IsRefusal}
-use Rattle.pr_verify.specs.Tables.{Row, Table}
-
--- the outline that a value of the program is
-abbrev pub outline_of : {S : Type 0} {sets : ViewSet S} → OutlineBy (ViewOf S sets) → Outline
-outline_of o = record { host = o.host; views = map (λ e. (e.0, view_of o.host e.1)) o.views.items }
 
 -- the views can be ones of this scenario: they have its keys, and speak of as many nexuses
 abbrev pub IsMadeFor : {S : Type 0} {sets : ViewSet S} → Scenario → OutlineBy (ViewOf S sets) → Type 0
@@ -26,19 +20,6 @@ IsMadeFor s o = All (λ e. (e.1.keys.items ≡ s.keys) × (e.1.hosts ≡ length 
 -- so can those of each table
 abbrev pub AreMadeFor : Scenario → List KeptTable → Type 0
 AreMadeFor s tables = All (λ t. IsMadeFor s t.outline) tables
-
--- there is a script
-abbrev pub IsScripted : Option Task → Type 0
-IsScripted None = ⊥
-IsScripted (Some (Scripted script budget)) = Unit {0}
-IsScripted (Some (Planned commands)) = ⊥
-
--- the row and the table that values of the program are
-abbrev pub row_of : KeptRow → Row
-row_of r = record { command = r.command; tests = r.tests.items; permitted = r.permitted; arms = r.arms.items; unarmed = r.unarmed.items }
-
-abbrev pub table_of : KeptTable → Table
-table_of t = record { outline = outline_of t.outline; rows = map row_of t.rows.items }
 
 -- ---- what holds of them, by the script of a host, if it has one
 

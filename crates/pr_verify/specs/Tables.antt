@@ -1,19 +1,19 @@
 -- Agrees with docs/VERDICTS.md, 'Why: `fence outline`'.
 -- What is known at each send of a script, for whoever wants to see why its scenario is accepted or refused.
-use Rattle.std.specs.Prelude.{◌≡◌, ◌↔◌, ℕ, ◌<◌, Bool, true, false, IsTrue, List, length, map, Option, Some, None}
+use Rattle.std.specs.Prelude.{◌≡◌, ◌↔◌, ℕ, ◌<◌, IsTrue, List, length, map, Some}
 use Rattle.std.specs.List.{All, AllPairs, AllZip, Contains, filter, range_with_len}
-use Rattle.pr_cdb.specs.declared.command.Command.{Command}
 use Rattle.pr_cdb.specs.declared.reply.Reply.{Reply}
 use Rattle.pr_cdb.specs.declared.wire.Request.TheVariants.{Plain}
 use Rattle.pr_unit.specs.UnitStates.{UnitState}
-use Rattle.pr_script.specs.declared.script.Test.{Test}
 use Rattle.pr_script.specs.Scripts.{Stmts}
 use Rattle.pr_script.specs.declared.landing.Class.{Class}
 use Rattle.pr_roles.specs.DeclaredRefusals.{Answered, refusals_of}
-use Rattle.pr_roles.specs.Scenarios.{Scenario, Task, Scripted, Planned, task}
+use Rattle.pr_roles.specs.Scenarios.{Scenario, task}
+use Rattle.pr_roles.specs.Tasks.{has_script}
 use Rattle.pr_regions.specs.Readings.{first_test}
 use Rattle.pr_verify.specs.Places.{Place, places_of}
-use Rattle.pr_verify.specs.Outlines.{Outline, OnScripted, IsShownAt, KeepsToRole}
+use Rattle.pr_views.specs.Tables.{Outline, Row, Table}
+use Rattle.pr_verify.specs.Outlines.{OnScripted, IsShownAt, KeepsToRole}
 use Rattle.pr_verify.specs.Refusals.{class_number, LacksArm}
 use Rattle.pr_verify.specs.LeastOutlines.{IsLeastSound}
 
@@ -26,15 +26,6 @@ pub record TakesArm (s : Scenario) (o : Outline) (p : Place) (arm : ℕ) : Type 
   pub answer : Answered (refusals_of s o.host) from o.host (Plain p.command) reply after
   pub taken : first_test p.tests reply ≡ Some arm
 
--- A send: its command, the tests of its arms, whether the role permits the command wherever it ends GOOD, the arms that some
--- reply takes, and how replies end that no arm takes.
-pub record Row : Type 0 where
-  pub command : Command
-  pub tests : List Test
-  pub permitted : Bool
-  pub arms : List ℕ
-  pub unarmed : List Class
-
 -- such is the row of the place: each possibility comes from some answer, and each list is in order
 pub record IsRow (s : Scenario) (o : Outline) (p : Place) (r : Row) : Type 0 where
   pub command : r.command ≡ p.command
@@ -45,20 +36,10 @@ pub record IsRow (s : Scenario) (o : Outline) (p : Place) (r : Row) : Type 0 whe
   pub unarmed : (class : Class) → Contains r.unarmed class ↔ LacksArm s o p class
   pub unarmed_rise : AllPairs (λ c d. class_number c < class_number d) r.unarmed
 
--- an outline, and a row for each of its sends
-pub record Table : Type 0 where
-  pub outline : Outline
-  pub rows : List Row
-
 -- the least sound outline of the script, and the rows of its places in order
 pub record IsTable (s : Scenario) (script : Stmts) (t : Table) : Type 0 where
   pub least : IsLeastSound s script t.outline
   pub rows : AllZip (IsRow s t.outline) (places_of script) t.rows
-
-abbrev pub has_script : Option Task → Bool
-has_script None = false
-has_script (Some (Scripted script budget)) = true
-has_script (Some (Planned commands)) = false
 
 -- a table for each host that has a script, in the order of the scenario
 pub record AreTables (s : Scenario) (ts : List Table) : Type 0 where

@@ -4,9 +4,10 @@ use Rattle.std.specs.Prelude.{◌≡◌, ◌≢◌, ℕ, ◌<◌, min, Some}
 use Rattle.pr_script.specs.Scripts.{Stmts}
 use Rattle.pr_script.specs.Costs.{cost_of_all}
 use Rattle.pr_roles.specs.Scenarios.{Scenario, Scripted, task}
-use Rattle.pr_verify.specs.declared.refusal.Refusal.{Refusal}
-use Rattle.pr_verify.specs.declared.refusal.Refusal.TheVariants.{NoArm, OutOfRole, OverBudget, Memory, NotSound}
-use Rattle.pr_verify.specs.Outlines.{Outline, IsCarried, HaveOutlines}
+use Rattle.pr_roles.specs.declared.refusal.Refusal.{Refusal}
+use Rattle.pr_roles.specs.declared.refusal.Refusal.TheVariants.{NoArm, OutOfRole, OverBudget, Memory, NotSound}
+use Rattle.pr_views.specs.Tables.{Outline}
+use Rattle.pr_verify.specs.Outlines.{IsCarried, HaveOutlines}
 use Rattle.pr_verify.specs.LeastOutlines.{IsLeastSound}
 use Rattle.pr_verify.specs.Refusals.{IsRefusal, past_budgets}
 

@@ -7,12 +7,11 @@ ghost use Rattle.pr_verify.specs.inside.Listing.{AreWritten, HasEachLine};
 
 use crate::known::{Answer, ask_the_same};
 use crate::nexus::refusals_in;
-use crate::outline::OutlineBy;
 use crate::places::Spot;
 use pr_domain::outcomes;
 use pr_roles::Scenario;
 use pr_sets::ViewSet;
-use pr_views::ViewOf;
+use pr_views::{OutlineBy, ViewOf};
 use std::alloc::{AllocError, Global};
 
 /// The sends of a host's script, which can stand in a text with the scenario's keys, and an outline that has a view for each.

@@ -11,18 +11,17 @@ ghost use Rattle.pr_roles.specs.Scenarios.{scenario_of, task};
 ghost use Rattle.pr_roles.specs.Starts.{CanStart};
 ghost use Rattle.pr_verify.specs.Outlines.{HostSendsFit, SendsFit};
 ghost use Rattle.pr_verify.specs.Refusals.{first_difference};
-ghost use Rattle.pr_verify.specs.Rooms.{IsFittingFor, IsMadeFor, IsRefusalFor, IsScripted, IsSoundFor};
+ghost use Rattle.pr_roles.specs.Tasks.{IsScripted};
+ghost use Rattle.pr_verify.specs.Rooms.{IsFittingFor, IsMadeFor, IsRefusalFor, IsSoundFor};
 ghost use Rattle.pr_verify.specs.inside.Reviewing.{CanCheck, FitsAnyBudget, IsOver, IsRefusedBy, IsSoundBy};
 
 use crate::answers::Questions;
-use crate::outline::OutlineOf;
 use crate::places::{Spot, spots};
-use crate::refusal::Refusal;
 use crate::reviewing::{first_misfit, first_unsound};
-use pr_roles::{Scenario, Task, nexus_in};
+use pr_roles::{Refusal, Scenario, Task, nexus_in};
 use pr_script::{Script, cost};
 use pr_sets::ViewSet;
-use pr_views::ViewOf;
+use pr_views::{OutlineOf, ViewOf};
 use std::alloc::Global;
 
 /// Whether the outline is sound and fits, so that the host's script keeps what safety asks of it; else the first reason

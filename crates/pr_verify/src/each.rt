@@ -8,10 +8,8 @@ ghost use Rattle.pr_verify.specs.Verdicts.{IsFinal, IsVerdict};
 ghost use Rattle.pr_verify.specs.inside.Checks.{ComeTo, EachFrom, IsAnswerFor, IsAnswerForAll, IsBegunFor, IsCheckFor};
 
 use crate::check_gate::CheckGate;
-use crate::inferring::has_script;
-use crate::refusal::Refusal;
 use crate::verifying::{Refused, check_host, verdict_on};
-use pr_roles::{Scenario, Verified};
+use pr_roles::{Refusal, Scenario, Verified, has_script};
 use std::alloc::{AllocError, Global};
 use std::snapshot::Snapshot;
 use std::sync::Wait;

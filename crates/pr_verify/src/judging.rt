@@ -4,16 +4,15 @@ ghost use Rattle.std.specs.Prelude.{map, IfNone, IfOk, IfSome};
 ghost use Rattle.pr_roles.specs.Safety.{IsSafe};
 ghost use Rattle.pr_roles.specs.Scenarios.{scenario_of};
 ghost use Rattle.pr_verify.specs.Outlines.{HaveOutlines};
-ghost use Rattle.pr_verify.specs.Rooms.{AreMadeFor, table_of};
+ghost use Rattle.pr_views.specs.Tables.{table_of};
+ghost use Rattle.pr_verify.specs.Rooms.{AreMadeFor};
 ghost use Rattle.pr_verify.specs.Tables.{AreTables};
 ghost use Rattle.pr_verify.specs.Verdicts.{IsFirstReason};
 
-use crate::inferring::has_script;
 use crate::laws::outlines_make_safe;
-use crate::refusal::Refusal;
-use crate::table::Table;
 use crate::tabling::judge_host;
-use pr_roles::Scenario;
+use pr_roles::{Refusal, Scenario, has_script};
+use pr_views::Table;
 use std::alloc::{AllocError, Global};
 
 /// What a scenario comes to.

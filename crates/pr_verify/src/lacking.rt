@@ -7,16 +7,15 @@ ghost use Rattle.std.specs.List.{Contains};
 ghost use Rattle.pr_roles.specs.Starts.{CanStart};
 ghost use Rattle.pr_views.specs.Rooms.{view_of};
 ghost use Rattle.pr_verify.specs.Outlines.{view_at};
-ghost use Rattle.pr_verify.specs.Rooms.{outline_of};
+ghost use Rattle.pr_views.specs.Tables.{outline_of};
 ghost use Rattle.pr_verify.specs.inside.Asked.{AreMade, IsFirstUnstarted, scenario_in};
 ghost use Rattle.pr_verify.specs.inside.Least.{least};
 ghost use Rattle.pr_verify.specs.inside.Lacking.{CanCompare, IsFirstWithout, IsWithinAt};
 
 use crate::answers::Questions;
-use crate::outline::OutlineOf;
 use pr_domain::of_start;
 use pr_sets::ViewSet;
-use pr_views::ViewOf;
+use pr_views::{OutlineOf, ViewOf};
 use std::alloc::{AllocError, Global};
 
 /// The smaller of two lines, where they are there.

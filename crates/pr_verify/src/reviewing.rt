@@ -14,14 +14,12 @@ ghost use Rattle.pr_verify.specs.inside.Reviewing.{IsFirstUnarmed, earlier, earl
 use crate::answers::Questions;
 use crate::lacking::{first_lacking, lacking_at_start, least};
 use crate::others::lacking_by_others;
-use crate::outline::OutlineOf;
 use crate::places::{Spot, first_lines};
-use crate::refusal::Refusal;
 use pr_permission::permitted;
-use pr_roles::nexus_in;
+use pr_roles::{Refusal, nexus_in};
 use pr_script::{Class, Landing, Script};
 use pr_sets::ViewSet;
-use pr_views::ViewOf;
+use pr_views::{OutlineOf, ViewOf};
 use std::alloc::{AllocError, Global};
 
 /// The first line whose view lacks a state that it has to show: an allowed start, one to which a send leads, or one that the

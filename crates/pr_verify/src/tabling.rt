@@ -7,7 +7,8 @@ ghost use Rattle.pr_script.specs.declared.landing.Landing.TheVariants.{Arm};
 ghost use Rattle.pr_roles.specs.Scenarios.{scenario_of, task};
 ghost use Rattle.pr_verify.specs.Outlines.{OnScripted};
 ghost use Rattle.pr_verify.specs.Refusals.{class_number};
-ghost use Rattle.pr_verify.specs.Rooms.{IsMadeFor, IsScripted};
+ghost use Rattle.pr_roles.specs.Tasks.{IsScripted};
+ghost use Rattle.pr_verify.specs.Rooms.{IsMadeFor};
 ghost use Rattle.pr_verify.specs.inside.Asked.{AreMade, IsAnswered, IsFirstMisfitIn, IsMisfitIn, IsRowIn};
 ghost use Rattle.pr_verify.specs.inside.Reviewing.{IsUnarmed};
 ghost use Rattle.pr_verify.specs.inside.Tabling.{IsCosted, IsInRange, IsJudgement, IsTableFor};
@@ -16,13 +17,11 @@ use crate::answers::Questions;
 use crate::checking::check_cost;
 use crate::inferring::{infer, script_in};
 use crate::places::{Spot, spots};
-use crate::refusal::Refusal;
 use crate::reviewing::{first_unarmed, number_of, review};
-use crate::table::{Row, Table};
-use pr_roles::{Scenario, Task, nexus_in};
+use pr_roles::{Refusal, Scenario, Task, nexus_in};
 use pr_script::{Class, Landing};
 use pr_sets::ViewSet;
-use pr_views::ViewOf;
+use pr_views::{Row, Table, ViewOf};
 use std::alloc::{AllocError, Global};
 
 /// The table of a host that has a script, and the first reason against the host, if there is one.

@@ -10,8 +10,7 @@ ghost use Rattle.pr_verify.specs.inside.Checks.{IsReasonOf};
 use crate::checking::{check_cost, check_fit};
 use crate::inferring::infer;
 use crate::laws::outlines_make_safe;
-use crate::refusal::Refusal;
-use pr_roles::{Scenario, Task, Verified, nexus_in};
+use pr_roles::{Refusal, Scenario, Task, Verified, nexus_in};
 use std::alloc::Global;
 
 /// A scenario that was refused, and why.

@@ -2,14 +2,20 @@
 #![tactic(auto)]
 
 mod attentions;
+mod numbers;
+mod outline;
 mod portion;
 mod possibilities;
 mod sets;
+mod table;
 mod view;
 
 pub use attentions::{is_among, without};
+pub use numbers::{reservation_at, reservation_number};
+pub use outline::{Outline, OutlineBy, OutlineOf};
 pub use portion::Portion;
 pub use possibilities::Possibilities;
+pub use table::{Row, Table};
 pub use view::{
     ATTENTION_SETS, MOST_REGISTRATIONS, POWER_ON_BIT, REGISTRATIONS_PREEMPTED_BIT,
     RESERVATIONS_PREEMPTED_BIT, RESERVATIONS_RELEASED_BIT, View, ViewOf, count_of_reservations,

@@ -1,7 +1,7 @@
 -- A scenario that was judged for the table of a host, and nothing written yet.
 use Rattle.std.specs.Prelude.{◌≡◌, ℕ, List, Option, Some, IfSome, Result, Ok, Err}
 use Rattle.pr_roles.specs.Scenarios.{Scenario, scenario_of, task}
-use Rattle.pr_verify.specs.Rooms.{IsScripted}
+use Rattle.pr_roles.specs.Tasks.{IsScripted}
 use Rattle.pr_text.specs.Reading.{IsWrittenAs}
 use Rattle.pr_report.specs.declared.verdict.Verdict.{Verdict}
 use Rattle.pr_report.specs.declared.verdict.Verdict.TheVariants as verdict

@@ -14,11 +14,12 @@ use Rattle.pr_interference.specs.Interference.{IsClosed}
 use Rattle.pr_verify.specs.declared.answers.Questions.{Questions}
 use Rattle.pr_verify.specs.declared.known.Answer.{Answer}
 use Rattle.pr_verify.specs.declared.places.Spot.{Spot}
-use Rattle.pr_verify.specs.declared.refusal.Refusal.{Refusal}
-use Rattle.pr_verify.specs.declared.table.Row.{Row}
-use Rattle.pr_verify.specs.Outlines.{Outline, view_at, IsAsked, IsLeftAt, StartsAt}
+use Rattle.pr_roles.specs.declared.refusal.Refusal.{Refusal}
+use Rattle.pr_views.specs.declared.table.Row.{Row}
+use Rattle.pr_views.specs.Tables.{Outline, outline_of, row_of}
+use Rattle.pr_verify.specs.Outlines.{view_at, IsAsked, IsLeftAt, StartsAt}
 use Rattle.pr_verify.specs.Places.{first_lines}
-use Rattle.pr_verify.specs.Rooms.{outline_of, row_of, IsMadeFor}
+use Rattle.pr_verify.specs.Rooms.{IsMadeFor}
 use Rattle.pr_verify.specs.Tables.{IsRow}
 use Rattle.pr_verify.specs.inside.Known.{ComesTo, AskTheSame, IsAnswer, IsAnswerAt, AreEqual}
 use Rattle.pr_verify.specs.inside.Listing.{place_of, IsPlaceWritten}

@@ -6,8 +6,8 @@ use Rattle.pr_verify.specs.declared.each.Begun.TheVariants as begun
 use Rattle.pr_verify.specs.declared.each.Check.{Check}
 use Rattle.pr_verify.specs.declared.each.Check.TheVariants as check
 use Rattle.pr_verify.specs.declared.each.CheckOf.{CheckOf}
-use Rattle.pr_verify.specs.declared.refusal.Refusal.{Refusal}
-use Rattle.pr_verify.specs.declared.refusal.Refusal.TheVariants.{Memory}
+use Rattle.pr_roles.specs.declared.refusal.Refusal.{Refusal}
+use Rattle.pr_roles.specs.declared.refusal.Refusal.TheVariants.{Memory}
 use Rattle.pr_verify.specs.Outlines.{IsCarried, HostSendsFit}
 use Rattle.pr_verify.specs.Verdicts.{HasReason, IsVerdict}
 

@@ -10,10 +10,10 @@ use Rattle.pr_views.specs.declared.view.ViewOf.{ViewOf}
 use Rattle.pr_views.specs.Views.{View, Shows, Within}
 use Rattle.pr_views.specs.Rooms.{view_of, AreAlike}
 use Rattle.pr_interference.specs.Interference.{IsDone, declares_resets, Becomes}
-use Rattle.pr_verify.specs.declared.outline.OutlineBy.{OutlineBy}
-use Rattle.pr_verify.specs.Outlines.{Outline, view_at, IsShownAt}
+use Rattle.pr_views.specs.declared.outline.OutlineBy.{OutlineBy}
+use Rattle.pr_views.specs.Tables.{Outline, outline_of}
+use Rattle.pr_verify.specs.Outlines.{view_at, IsShownAt}
 use Rattle.pr_verify.specs.LeastOutlines.{IsWithinIn}
-use Rattle.pr_verify.specs.Rooms.{outline_of}
 use Rattle.pr_verify.specs.inside.Least.{IsLeast, IsLeastAmong}
 
 -- ---- states

@@ -13,14 +13,15 @@ use Rattle.pr_roles.specs.declared.parts.Parts.{Parts}
 use Rattle.pr_sets.specs.declared.view_set.ViewSet.{Ghosts as ViewSet}
 use Rattle.pr_roles.specs.inside.FirstElements.{Among}
 use Rattle.pr_views.specs.declared.view.ViewOf.{ViewOf}
-use Rattle.pr_verify.specs.declared.outline.OutlineBy.{OutlineBy}
+use Rattle.pr_views.specs.declared.outline.OutlineBy.{OutlineBy}
 use Rattle.pr_verify.specs.declared.places.Spot.{Spot}
-use Rattle.pr_verify.specs.declared.refusal.Refusal.{Refusal}
-use Rattle.pr_verify.specs.declared.refusal.Refusal.TheVariants.{NoArm, OutOfRole, OverBudget, Memory, NotSound}
+use Rattle.pr_roles.specs.declared.refusal.Refusal.{Refusal}
+use Rattle.pr_roles.specs.declared.refusal.Refusal.TheVariants.{NoArm, OutOfRole, OverBudget, Memory, NotSound}
 use Rattle.pr_verify.specs.Places.{Place}
-use Rattle.pr_verify.specs.Outlines.{Outline, ComesTo, KeepsToRole, IsSound, IsFitting}
+use Rattle.pr_views.specs.Tables.{Outline, outline_of}
+use Rattle.pr_verify.specs.Outlines.{ComesTo, KeepsToRole, IsSound, IsFitting}
 use Rattle.pr_verify.specs.Refusals.{class_number, past_budgets, IsRefusal, FitsAt, BreaksRole, LacksArmFirst}
-use Rattle.pr_verify.specs.Rooms.{outline_of, IsMadeFor}
+use Rattle.pr_verify.specs.Rooms.{IsMadeFor}
 use Rattle.pr_verify.specs.inside.Least.{EachOf, IsLeastAmong}
 use Rattle.pr_verify.specs.inside.Lacking.{HasAll, Lacks}
 use Rattle.pr_verify.specs.inside.Listing.{place_of}

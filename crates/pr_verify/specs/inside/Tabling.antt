@@ -5,10 +5,10 @@ use Rattle.pr_script.specs.Scripts.{Stmts}
 use Rattle.pr_script.specs.declared.landing.Class.{Class}
 use Rattle.pr_script.specs.declared.landing.Class.TheVariants.{Good, Conflict, Busy, Full, Sense}
 use Rattle.pr_roles.specs.Scenarios.{Scenario, task}
-use Rattle.pr_verify.specs.declared.refusal.Refusal.{Refusal}
-use Rattle.pr_verify.specs.declared.table.Table.{Table}
+use Rattle.pr_roles.specs.declared.refusal.Refusal.{Refusal}
+use Rattle.pr_views.specs.declared.table.Table.{Table}
 use Rattle.pr_verify.specs.Outlines.{OnScripted, IsCarried, HostSendsFit}
-use Rattle.pr_verify.specs.Rooms.{table_of}
+use Rattle.pr_views.specs.Tables.{table_of}
 use Rattle.pr_verify.specs.Tables.{IsTable}
 use Rattle.pr_verify.specs.Verdicts.{IsReasonAgainst, HasReason, IsFirstReason}
 

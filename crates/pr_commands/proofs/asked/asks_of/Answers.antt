@@ -9,7 +9,8 @@ use Rattle.pr_audit.specs.declared.end.End.{End}
 use Rattle.pr_trace.specs.TraceText.{names_in, names_of}
 use Rattle.pr_explore.specs.Exits.{Exit}
 use Rattle.pr_explore.specs.Together.{exit_in}
-use Rattle.pr_commands.specs.Asked.{ask_of, asks_from, exits_of, has_script, is_free}
+use Rattle.pr_roles.specs.Tasks.{has_script}
+use Rattle.pr_commands.specs.Asked.{ask_of, asks_from, exits_of, is_free}
 use Rattle.pr_commands.proofs.lemmas.Ends.Asks.{ask_more, ask_none, ask_twice, exits_set, nothing_asked}
 use Rattle.pr_commands.proofs.lemmas.Replays.Plans.{names_of_scenario, nexuses_in}
 use Rattle.pr_commands.proofs.lemmas.Steps.Words.{few_nexuses}

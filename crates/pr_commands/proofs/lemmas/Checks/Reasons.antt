@@ -1,8 +1,8 @@
 -- Of reasons for a refusal.
 use Rattle.std.proofs.Common.{◌≢◌, refl}
 use Rattle.pr_roles.specs.Scenarios.{Scenario}
-use Rattle.pr_verify.specs.declared.refusal.Refusal.{Refusal}
-use Rattle.pr_verify.specs.declared.refusal.Refusal.TheVariants.{NoArm, OutOfRole, OverBudget, Memory, NotSound}
+use Rattle.pr_roles.specs.declared.refusal.Refusal.{Refusal}
+use Rattle.pr_roles.specs.declared.refusal.Refusal.TheVariants.{NoArm, OutOfRole, OverBudget, Memory, NotSound}
 use Rattle.pr_verify.specs.Verdicts.{IsFirstReason, IsVerdict}
 use Rattle.pr_report.specs.Verdicts.{IsReason}
 

@@ -7,7 +7,8 @@ use Rattle.pr_audit.specs.declared.end.End.{End}
 use Rattle.pr_trace.specs.TraceText.{names_in}
 use Rattle.pr_explore.specs.Exits.{Exit}
 use Rattle.pr_explore.specs.Together.{exit_in}
-use Rattle.pr_commands.specs.Asked.{ask_of, asks_from, exits_of, has_script, is_free, with_ask}
+use Rattle.pr_roles.specs.Tasks.{has_script}
+use Rattle.pr_commands.specs.Asked.{ask_of, asks_from, exits_of, is_free, with_ask}
 
 -- one more end is asked for
 pub exits_set : (asked : List (Option End)) (i : ℕ) (e : End) → exits_of (slice_set asked i (Some e)) ≡ slice_set (exits_of asked) i (Some (exit_in (Some e)))

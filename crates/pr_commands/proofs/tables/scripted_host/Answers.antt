@@ -6,7 +6,7 @@ use Rattle.pr_roles.specs.declared.parts.Parts.{Parts}
 use Rattle.pr_roles.specs.Scenarios.{Scenario, scenario_of, task}
 use Rattle.pr_trace.specs.TraceReadings.{number_of}
 use Rattle.pr_trace.specs.TraceText.{names_in, names_of}
-use Rattle.pr_commands.specs.Asked.{has_script}
+use Rattle.pr_roles.specs.Tasks.{has_script}
 use Rattle.pr_commands.specs.Tables.{if_scripted, scripted_host}
 use Rattle.pr_commands.proofs.lemmas.Replays.Plans.{names_of_scenario}
 use Rattle.pr_commands.proofs.lemmas.Steps.Words.{few_nexuses}

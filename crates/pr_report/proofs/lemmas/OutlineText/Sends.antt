@@ -12,8 +12,8 @@ use Rattle.pr_sets.specs.declared.view_set.ViewSet.{Ghosts as ViewSet}
 use Rattle.pr_views.specs.declared.view.ViewOf.{ViewOf}
 use Rattle.pr_views.specs.Views.{View}
 use Rattle.pr_views.specs.Rooms.{contains_at}
-use Rattle.pr_verify.specs.declared.table.Row.{Row as KeptRow}
-use Rattle.pr_verify.specs.Tables.{Table}
+use Rattle.pr_views.specs.declared.table.Row.{Row as KeptRow}
+use Rattle.pr_views.specs.Tables.{Table}
 use Rattle.pr_report.specs.OutlineText.{outlines_text}
 use Rattle.pr_trace.proofs.lemmas.FrontsWritten.HeldLines.{held_front, held_more}
 use Rattle.pr_report.proofs.lemmas.WordsWritten.Possibilities.{line_pieces, shown}

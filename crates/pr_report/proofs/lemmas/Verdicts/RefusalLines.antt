@@ -1,7 +1,7 @@
 -- The line of a refusal names hosts as the scenario does.
 use Rattle.pr_report.proofs.Common.{◌≡◌, ℕ, List, Option, Result, sym, ap, ◌∙◌, subst, scenario_of, Parts, names_in, names_of, Puts}
 use Rattle.pr_roles.specs.declared.parts.Nexus.{Nexus as NexusPart}
-use Rattle.pr_verify.specs.declared.refusal.Refusal.{Refusal}
+use Rattle.pr_roles.specs.declared.refusal.Refusal.{Refusal}
 use Rattle.pr_report.specs.declared.verdict.Verdict.{Verdict}
 use Rattle.pr_report.specs.declared.verdict.Verdict.TheVariants.{Refused}
 use Rattle.pr_report.specs.Verdicts.{reason_words, refused_line, verdict_text}

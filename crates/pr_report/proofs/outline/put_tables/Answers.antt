@@ -1,5 +1,5 @@
 use Rattle.pr_report.proofs.Common.{map, ap, names_of}
-use Rattle.pr_verify.specs.Rooms.{table_of}
+use Rattle.pr_views.specs.Tables.{table_of}
 use Rattle.pr_report.specs.OutlineText.{table_text}
 use Rattle.pr_output.proofs.lemmas.Written.Fronts.{puts_err}
 use Rattle.pr_report.proofs.lemmas.WordsWritten.Possibilities.{each_front, each_more}

@@ -1,5 +1,5 @@
 use Rattle.pr_report.proofs.Common.{map, drop, names_of, Wrote}
-use Rattle.pr_verify.specs.Rooms.{table_of}
+use Rattle.pr_views.specs.Tables.{table_of}
 use Rattle.pr_report.specs.OutlineText.{outlines_text}
 use Rattle.pr_report.proofs.outline.put_tables.Given as goal
 

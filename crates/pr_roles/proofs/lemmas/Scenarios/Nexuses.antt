@@ -1,9 +1,10 @@
 -- The nexuses of a scenario, and those of its parts.
-use Rattle.pr_roles.proofs.Common.{◌≡◌, ℕ, ◌<◌, ◌≤◌, true, ◌&&◌, [], length, nat_le, slice_index_or, Some, None, Option, option_map, sym, ap, ◌∙◌, subst, and_parts, slice_get-map, slice_get_within, Nexus, Scenario, nexus_of}
+use Rattle.pr_roles.proofs.Common.{◌≡◌, ℕ, ◌<◌, ◌≤◌, true, ◌&&◌, List, [], length, nat_lt, nat_le, slice_get, slice_index_or, Some, None, Option, option_map, sym, refl, ap, ◌∙◌, subst, arith, and_parts, nat_tests, slice_get-map, slice_get_within, Nexus, Scenario, nexus_of}
+use Rattle.std.proofs.Common.{get_or}
 use Rattle.std.specs.Option.{option_map_or}
 use Rattle.std.proofs.lemmas.Bool.{leb-true}
 use Rattle.std.proofs.lemmas.List.Sums.{AllPass-from_list_all}
-use Rattle.std.proofs.lemmas.Option.{slice_get-get_or, get_or_from_slice_get}
+use Rattle.std.proofs.lemmas.Option.{slice_get-get_or, slice_get_past, slice_get_read, get_or_from_slice_get}
 use Rattle.pr_script.specs.Grammar.{script_fits}
 use Rattle.pr_script.specs.Names.{is_name}
 use Rattle.pr_script.specs.Trees.{script_of}
@@ -29,6 +30,20 @@ nexus_fits s k n fits there =
 pub nexus_at : (p : Parts) (k : ℕ) (d : NexusPart) → k < length p.nexuses.items → nexus (scenario_of p) k ≡ Some (nexus_of (slice_index_or p.nexuses.items k d))
 unfolding scenario_of
 nexus_at p k d small = slice_get-map nexus_of p.nexuses.items k ∙ ap (option_map nexus_of) (slice_get-get_or p.nexuses.items k d small)
+
+-- the same, of one that was read from the list
+pub nexus_read : (p : Parts) (ns : List NexusPart) (i : ℕ) (n : NexusPart) → ns ≡ p.nexuses.items → n ≡ get_or ns i n → i < length ns → nexus (scenario_of p) i ≡ Some (nexus_of n)
+unfolding scenario_of
+nexus_read p ns i n are is below =
+    slice_get-map nexus_of p.nexuses.items i ∙ ap (λ xs. option_map nexus_of (slice_get xs i)) (sym are) ∙ ap (option_map nexus_of) (slice_get_read ns (length ns) i n refl below is)
+
+pub nexus_found : (p : Parts) (ns : List NexusPart) (i j : ℕ) (n : NexusPart) → ns ≡ p.nexuses.items → true ≡ nat_lt i (length ns) → n ≡ get_or ns i n → i ≡ j → nexus (scenario_of p) j ≡ Some (nexus_of n)
+nexus_found p ns i j n are within is same =
+    subst (λ k. nexus (scenario_of p) k ≡ Some (nexus_of n)) same (nexus_read p ns i n are is (grind (arith, nat_tests, within)))
+
+-- one that is not there has no task
+pub task_past : (s : Scenario) (i : ℕ) → length s.nexuses ≤ i → task s i ≡ None
+task_past s i past = ap (λ (o : Option Nexus). option_map_or (λ m. Some m.task) o None) (slice_get_past s.nexuses i past)
 
 -- the clauses of a part are those of the role
 pub role_at : (p : Parts) (k : ℕ) (d : NexusPart) → k < length p.nexuses.items → (slice_index_or p.nexuses.items k d).role.clauses.items ≡ role (scenario_of p) k

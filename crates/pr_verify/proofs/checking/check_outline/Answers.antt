@@ -1,7 +1,7 @@
 use Rattle.pr_verify.proofs.Common.{ℕ, ◌≤◌, min, IfErr, sym, refl, ◌∙◌, subst, rules, err_from_is_err_and, cost_of_all, script_of, task, scenario_of, IsSound, IsFitting, OnScripted, IsRefusal, outline_of, Refusal}
 use Rattle.std.proofs.lemmas.Result.{IfOk-weaker, IfErr-weaker}
 use Rattle.pr_roles.proofs.lemmas.Scenarios.Nexuses.{scripted_task, scripted_fits}
-use Rattle.pr_verify.specs.declared.refusal.Refusal.TheVariants.{OverBudget}
+use Rattle.pr_roles.specs.declared.refusal.Refusal.TheVariants.{OverBudget}
 use Rattle.pr_verify.specs.Refusals.{past_budgets}
 use Rattle.pr_verify.proofs.lemmas.Rooms.Nexuses.{scripted_there, planned_not}
 use Rattle.pr_verify.proofs.lemmas.Rooms.Scripts.{on_script}

@@ -1,5 +1,5 @@
 use Rattle.pr_verify.proofs.Common.{◌≡◌, ◌+◌, length, Vec, Global, sym, ap, ◌∙◌, subst, arith, scenario_of, are_counted}
-use Rattle.pr_verify.specs.declared.table.Table.{Table}
+use Rattle.pr_views.specs.declared.table.Table.{Table}
 use Rattle.pr_verify.specs.inside.Tabling.{IsJudgementBefore}
 use Rattle.pr_verify.proofs.lemmas.Tabling.Judgements.{judged_next, judged_past, outlines_there, safe_all, reason_first, outlines_missing}
 use Rattle.pr_verify.proofs.lemmas.Tabling.Rows.{AreBeforeHost, one_table, no_table, are_tables}
@@ -8,9 +8,6 @@ use Rattle.pr_verify.proofs.judging.judge.Goals as goal
 
 pub overflow_cast-hosts : goal.overflow_cast-hosts
 overflow_cast-hosts c = let few = (are_counted c.args.scenario.now c.parts.result.now c.len-hosts.result c.parts.ensures.value c.parts.ensures.fits c.len-hosts.ensures).few.1 in omega arith
-
-pub has_script-requires : goal.has_script-requires
-has_script-requires c = let all = (are_counted c.args.scenario.now c.parts.result.now c.len-hosts.result c.parts.ensures.value c.parts.ensures.fits c.len-hosts.ensures).nexuses in let small = c.loop-host-test.true in omega arith
 
 pub loop-host-preserved : goal.loop-host-preserved
 loop-host-preserved c =

@@ -2,7 +2,7 @@
 use Rattle.pr_verify.proofs.Common.{◌≡◌, ℕ, ◌+◌, ◌<◌, ◌≤◌, true, ◌⊎◌, List, map, length, slice_index_or, Some, None, All, Contains, Option, sym, refl, ap, ◌∙◌, subst, inl, inr, arith, map-map, cost_of_all, rise_above, script_fits, Stmts, Scenario, View, Among, Outline, IsOfScenario, StartsAt, ComesTo, IsLeftAt, IsAsked, at_start, by_itself, by_others, IsListed, IsSound, KeepsToRole, IsFitting, Place, places_of, first_difference, BreaksRole, FitsAt, IsRefusal, Spot, Refusal, HasAll, Lacks, IsFirstLacking, least, EachOf, place_of, IsPlaceWritten, IsLackingOfSends}
 use Rattle.std.specs.Option.{option_or}
 use Rattle.std.proofs.lemmas.List.Elements.{Contains-get_or}
-use Rattle.pr_verify.specs.declared.refusal.Refusal.TheVariants.{NoArm, OutOfRole}
+use Rattle.pr_roles.specs.declared.refusal.Refusal.TheVariants.{NoArm, OutOfRole}
 use Rattle.pr_verify.specs.Refusals.{DiffersAt, LacksFirst, LacksArmFirst, IsUnfitAt}
 use Rattle.pr_verify.specs.inside.Reviewing.{IsReason, IsMisfit, HasMisfit, IsFirstMisfit}
 use Rattle.pr_verify.proofs.lemmas.Least.FirstLines.{least_as, least_either, each_more, each_listed, listed_among}

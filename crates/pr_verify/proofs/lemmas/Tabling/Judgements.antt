@@ -5,7 +5,7 @@ use Rattle.std.specs.Result.{OnOk, result_err}
 use Rattle.pr_roles.specs.Scenarios.{Planned}
 use Rattle.pr_script.specs.declared.script.Script.{Script}
 use Rattle.pr_verify.specs.Laws.{OutlinesMakeSafe}
-use Rattle.pr_verify.specs.Tables.{has_script}
+use Rattle.pr_roles.specs.Tasks.{has_script}
 use Rattle.pr_verify.specs.Verdicts.{IsFirstReason}
 use Rattle.pr_verify.specs.inside.Reviewing.{IsReason, IsFirstMisfit, IsOver}
 use Rattle.pr_verify.specs.inside.Tabling.{IsCosted, IsJudgement, IsJudgementBefore}

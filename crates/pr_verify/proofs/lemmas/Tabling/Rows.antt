@@ -9,9 +9,10 @@ use Rattle.std.proofs.lemmas.List.Quantifiers.{all_pairs_push}
 use Rattle.pr_script.specs.declared.script.Test.TheVariants as test
 use Rattle.pr_sets.specs.declared.view_set.ViewSet.{Ghosts as ViewSet}
 use Rattle.pr_script.specs.declared.landing.Class.TheVariants.{Good, Conflict, Busy, Full, Sense}
-use Rattle.pr_verify.specs.Rooms.{table_of}
-use Rattle.pr_verify.specs.Tables.{TakesArm, Row, Table, IsTable, AreTables, has_script}
-use Rattle.pr_verify.specs.declared.table.Table.{Table as KeptTable}
+use Rattle.pr_views.specs.Tables.{Row, Table, table_of}
+use Rattle.pr_roles.specs.Tasks.{has_script}
+use Rattle.pr_verify.specs.Tables.{TakesArm, IsTable, AreTables}
+use Rattle.pr_views.specs.declared.table.Table.{Table as KeptTable}
 use Rattle.pr_verify.proofs.lemmas.Reviewing.Findings.{place_lines}
 use Rattle.pr_verify.proofs.lemmas.Reviewing.FittingPlaces.{IsHere, shown_here, shown_there, answer_own, answer_host, lacks_arm, lacking_listed}
 use Rattle.pr_verify.proofs.lemmas.Least.FirstLines.{among_back}

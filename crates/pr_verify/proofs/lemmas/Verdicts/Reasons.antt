@@ -1,6 +1,6 @@
 -- Reasons against a host: what the least sound outline shows, every sound outline does.
 use Rattle.pr_verify.proofs.Common.{◌≡◌, ℕ, ◌<◌, min, true, false, ◌≢◌, ◌⊎◌, List, [], ◌∷◌, map, is_some, if◌then◌else◌, ◌==◌, slice_get, Some, None, Contains, Option, option_and_then, sym, refl, ap, ◌∙◌, subst, inl, inr, arith, false≢true, eqb_tells, none-some, Plain, Step, UnitState, Stmts, Answered, refusals_of, command_permitted, Scripted, role, task, Scenario, View, shown_within, IsWithinIn, IsLeastSound, Outline, view_at, ShowsIn, IsShownAt, scope_in, IsSound, HasOutline, OnScripted, HaveOutlines, Place, places_of, first_difference, BreaksRole, IsRefusal, IsVerdict, Refusal}
-use Rattle.pr_verify.specs.declared.refusal.Refusal.TheVariants.{NoArm, OutOfRole, OverBudget, Memory, NotSound}
+use Rattle.pr_roles.specs.declared.refusal.Refusal.TheVariants.{NoArm, OutOfRole, OverBudget, Memory, NotSound}
 use Rattle.pr_verify.specs.Laws.{ReasonsAreFinal}
 use Rattle.pr_verify.specs.Refusals.{LacksArm, DiffersAt, LacksFirst}
 use Rattle.pr_verify.specs.Verdicts.{HasReason, IsFirstReason}

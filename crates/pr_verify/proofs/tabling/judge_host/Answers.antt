@@ -2,7 +2,7 @@ use Rattle.pr_verify.proofs.Common.{◌≡◌, ℕ, ◌<◌, List, map, length, 
 use Rattle.std.proofs.lemmas.Slice.Zip.{AllZip-long}
 use Rattle.pr_sets.specs.declared.word_set.WordSet.{WordSet}
 use Rattle.pr_verify.specs.Tables.{IsTable}
-use Rattle.pr_verify.specs.declared.table.Row.{Row}
+use Rattle.pr_views.specs.declared.table.Row.{Row}
 use Rattle.pr_verify.specs.inside.Reviewing.{IsFirstMisfit}
 use Rattle.pr_verify.specs.inside.Tabling.{IsCosted, IsJudgement}
 use Rattle.pr_verify.proofs.lemmas.Reviewing.Findings.{spots_rise, spots_written}

@@ -1,6 +1,6 @@
 use Rattle.pr_verify.proofs.Common.{◌≡◌, ◌+◌, [], length, take, sym, ap, ◌∙◌, subst, arith, rules, AllZip, All-nil, scenario_of, FitsAt, outline_of, row_of, IsRow, Spot, IsAnswerTo, AreAnswersTo, place_of}
 use Rattle.std.proofs.lemmas.List.{take_all}
-use Rattle.pr_verify.specs.declared.table.Row.{Row}
+use Rattle.pr_views.specs.declared.table.Row.{Row}
 use Rattle.pr_verify.specs.inside.Reviewing.{IsFirstMisfit}
 use Rattle.pr_verify.proofs.lemmas.Least.FirstLines.{each_none}
 use Rattle.pr_verify.proofs.lemmas.Reviewing.Findings.{misfit_more}

@@ -1,7 +1,7 @@
 use Rattle.pr_verify.proofs.Common.{ℕ, ◌≤◌, ◌≢◌, IfErr, Some, sym, refl, ap, ◌∙◌, subst, arith, rules, err_from_is_err_and, cost_of_all, Stmts, script_of, task, task_of, scenario_of, IsLeastSound, HasOutline, OnScripted, SendsFit, IsRefusal, outline_of, IsScripted, Refusal}
 use Rattle.std.proofs.lemmas.Result.{IfErr-weaker, on_ok_weaker}
 use Rattle.pr_roles.proofs.lemmas.Scenarios.Nexuses.{scripted_task, scripted_fits, task_read}
-use Rattle.pr_verify.specs.declared.refusal.Refusal.TheVariants.{Memory}
+use Rattle.pr_roles.specs.declared.refusal.Refusal.TheVariants.{Memory}
 use Rattle.pr_verify.specs.Verdicts.{HasReason}
 use Rattle.pr_verify.proofs.lemmas.Verdicts.Reasons.{has_reason}
 use Rattle.pr_verify.proofs.lemmas.Rooms.Scripts.{on_script}

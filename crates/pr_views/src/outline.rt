@@ -1,7 +1,7 @@
 //! Outlines.
 
+use crate::view::ViewOf;
 use pr_sets::WordSet;
-use pr_views::ViewOf;
 
 /// What a host can know of the logical unit at each send of its script, by views of some kind.
 // The views are a parameter, and not only their sets, so that whoever has an outline knows that such a view fits in memory.

@@ -1,6 +1,6 @@
 //! Why a script is refused.
 
-ghost use Rattle.pr_verify.specs.declared.refusal.Refusal.TheVariants.{Memory};
+ghost use Rattle.pr_roles.specs.declared.refusal.Refusal.TheVariants.{Memory};
 
 use pr_script::Class;
 use std::alloc::AllocError;

@@ -4,9 +4,10 @@ use Rattle.std.proofs.lemmas.Bool.Decides.{nat_tests}
 use Rattle.pr_roles.specs.declared.parts.Parts.{Parts}
 use Rattle.pr_roles.specs.declared.parts.Task.{Task}
 use Rattle.pr_roles.specs.Scenarios.{scenario_of, task_of}
-use Rattle.pr_explore.proofs.lemmas.Seen.{count_read, nexus_found, task_past, task_read}
-use Rattle.pr_commands.specs.Asked.{has_script}
-use Rattle.pr_commands.proofs.asked.has_script.Goals as goal
+use Rattle.pr_roles.proofs.lemmas.Scenarios.Nexuses.{nexus_found, task_past, task_read}
+use Rattle.pr_roles.proofs.lemmas.Scenarios.Parts.{count_of_parts}
+use Rattle.pr_roles.specs.Tasks.{has_script}
+use Rattle.pr_roles.proofs.nexus.has_script.Goals as goal
 
 pub returns-in-Scripted : goal.returns-in-Scripted
 returns-in-Scripted c =
@@ -27,4 +28,4 @@ returns-in-None c =
     let p = c.args.scenario.now in
     let items = ap length (c.deref.ensures.value ∙ ap (λ (q : Parts). q.nexuses.items) c.parts.ensures.value) in
     let past : length c.deref.result.now ≤ c.from.result = grind (arith, nat_tests, c.in-None.ensures.lookup.0) in
-    sym (ap has_script (task_past (scenario_of p) c.args.host (omega (arith, past, items, count_read p, c.from.ensures))))
+    sym (ap has_script (task_past (scenario_of p) c.args.host (omega (arith, past, items, count_of_parts p, c.from.ensures))))
