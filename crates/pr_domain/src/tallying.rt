@@ -92,10 +92,8 @@ fn add_branches(
     requires room { All (λ b. HasRoom place.hosts b.ending) branches.now }
     ensures { AddsBranches view.now place senders branches.now arm.number tally.old tally.new }
 {
-    let mut i = 0;
-    while i < branches.len() {
-        add_branch(tally, view, place, senders, &branches[i], arm);
-        i += 1;
+    for branch in branches {
+        add_branch(tally, view, place, senders, branch, arm);
     }
 }
 
@@ -196,10 +194,8 @@ fn add_readings(
     requires registration { registration ≤ MOST_KEYS }
     ensures { AddsReadings view.now place registration readings.now tally.old tally.new }
 {
-    let mut i = 0;
-    while i < readings.len() {
-        add_reading(tally, view, place, registration, &readings[i]);
-        i += 1;
+    for reading in readings {
+        add_reading(tally, view, place, registration, reading);
     }
 }
 

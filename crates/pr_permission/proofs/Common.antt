@@ -33,6 +33,6 @@ pub use Rattle.pr_regions.specs.declared.place.Place.{Place}
 pub use Rattle.pr_regions.specs.declared.region.Branch.{Branch}
 pub use Rattle.pr_regions.specs.declared.region.Transition.{Transition}
 pub use Rattle.pr_regions.proofs.lemmas.Portions.GatheredStates.{same_reservation}
-pub use Rattle.pr_domain.specs.inside.Tallies.{IsRight, IsInOne, HasFirst, HasBoth, IsReserved, scope_at}
+pub use Rattle.pr_domain.specs.inside.Tallies.{IsRight, IsInOne, HasBoth, scope_at}
 pub use Rattle.pr_permission.specs.inside.Permitting.{ArePermitted}
 pub use Rattle.pr_views.specs.declared.view.TheConstants.{MOST_REGISTRATIONS}

@@ -167,14 +167,9 @@ impl Asking<'_> {
 fn is_one_reached(view: &Possibilities, place: Place, senders: BitSet, branches: &[Branch]) -> bool
     ensures { TellsOneReached view.now place senders branches.now result }
 {
-    let mut i = 0;
-    while i < branches.len() {
-        if is_reached(view, place, senders, &branches[i]) {
-            return true;
-        }
-        i += 1;
-    }
-    false
+    branches
+        .iter()
+        .any(|branch| is_reached(view, place, senders, branch))
 }
 
 // Whether the branch ends GOOD in some state of the view, in which nothing is pending for its owner.

@@ -115,20 +115,21 @@ pub record IsTally (v : View) (c : Command) (tests : List Test) (t : Tally) : Ty
 abbrev pub AreRight : Scope → Command → List Test → Possibilities → Place → BitSet → List Branch → ℕ → Type 0
 AreRight s c tests view place senders branches arm = (b : Branch) → Contains branches b → IsRight s c tests view place senders b arm
 
--- the state is in the region of one of the first n branches
-pub record IsInOne (v : View) (place : Place) (senders : BitSet) (branches : List Branch) (n : ℕ) (u : UnitState) : Type 0 where
-  pub index : ℕ
-  pub below : index < n
-  pub branch : Branch
-  pub listed : slice_get branches index ≡ Some branch
-  pub at : IsAt v place senders branch.region u
+-- of the state is one of the first n numbers
+abbrev pub OneBelow : ℕ → (ℕ → UnitState → Type 0) → UnitState → Type 0
+OneBelow n IsOf u = (k : ℕ) × (k < n) × IsOf k u
 
--- the reservation of the place stands, and its sender has one of the first n registrations
-pub record HasFirst (s : Scope) (place : Place) (n : ℕ) (u : UnitState) : Type 0 where
-  pub registration : ℕ
-  pub below : registration < n
-  pub reserved : IsSo s u (Reservation place.reservation)
-  pub registered : IsSo s u (Registration place.sender registration)
+-- of the state is the element at this place
+abbrev pub IsOfPlace : {X : Type 0} → List X → (X → UnitState → Type 0) → ℕ → UnitState → Type 0
+IsOfPlace {X} xs IsOf k u = (x : X) × (slice_get xs k ≡ Some x) × IsOf x u
+
+-- the state is in the region of one of the first n branches
+abbrev pub IsInOne : View → Place → BitSet → List Branch → ℕ → UnitState → Type 0
+IsInOne v place senders branches n = OneBelow n (IsOfPlace branches (λ b. IsAt v place senders b.region))
+
+-- the reservation of the place stands
+abbrev pub IsUnder : Scope → Place → UnitState → Type 0
+IsUnder s place u = IsSo s u (Reservation place.reservation)
 
 -- the reservation of the place stands, and its sender has one of these registrations
 pub record HasOneOf (s : Scope) (place : Place) (senders : BitSet) (u : UnitState) : Type 0 where
@@ -143,10 +144,8 @@ pub record HasBoth (s : Scope) (place : Place) (r : ℕ) (u : UnitState) : Type 
   pub registered : IsSo s u (Registration place.sender r)
 
 -- one of the first n reservations stands
-pub record IsReserved (s : Scope) (n : ℕ) (u : UnitState) : Type 0 where
-  pub reservation : ℕ
-  pub below : reservation < n
-  pub reserved : IsSo s u (Reservation reservation)
+abbrev pub IsReserved : Scope → ℕ → UnitState → Type 0
+IsReserved s n = OneBelow n (λ x u. IsSo s u (Reservation x))
 
 -- ---- registrations of the sender that are alike
 
@@ -194,12 +193,8 @@ abbrev pub IsReadAt : Scope → Possibilities → Place → ℕ → Reading → 
 IsReadAt s view place r reading u = HasBoth s place r u × IsInRegion s place.sender reading.region u
 
 -- the state is so of one of the first n readings
-pub record IsReadFirst (s : Scope) (view : Possibilities) (place : Place) (r : ℕ) (readings : List Reading) (n : ℕ) (u : UnitState) : Type 0 where
-  pub index : ℕ
-  pub below : index < n
-  pub reading : Reading
-  pub listed : slice_get readings index ≡ Some reading
-  pub at : IsReadAt s view place r reading u
+abbrev pub IsReadFirst : Scope → Possibilities → Place → ℕ → List Reading → ℕ → UnitState → Type 0
+IsReadFirst s view place r readings n = OneBelow n (IsOfPlace readings (IsReadAt s view place r))
 
 -- What is known of a reading: the command only looks, and where the sender has registration r its data is taken by
 -- the arm that the reading names.

@@ -1,5 +1,5 @@
 -- What is added to the tally of a command with the tests of its send.
-use Rattle.std.specs.Prelude.{◌≡◌, ℕ, ◌+◌, ◌||◌, true, length, Some}
+use Rattle.std.specs.Prelude.{◌≡◌, ℕ, ◌+◌, ◌||◌, true, Some}
 use Rattle.pr_script.specs.Grammar.{is_read_keys, is_read_reservation}
 use Rattle.pr_sets.specs.declared.bit_set.BitSet.{BitSet}
 use Rattle.pr_sets.specs.BitSets.{has}
@@ -14,7 +14,7 @@ use Rattle.pr_regions.specs.Purposes.{purpose_of, is_refused}
 use Rattle.pr_regions.specs.Regions.{standing_of}
 use Rattle.pr_domain.specs.declared.tally.Tally.{Tally}
 use Rattle.pr_domain.specs.declared.tested.TestedCommand.{TestedCommand}
-use Rattle.pr_domain.specs.inside.Tallies.{Grows, HasOneOf, HasFirst, IsReserved, IsOwners, IsOfScope, IsNothing, IsTally}
+use Rattle.pr_domain.specs.inside.Tallies.{Grows, HasOneOf, IsUnder, IsReserved, IsOwners, IsOfScope, IsNothing, IsTally}
 
 -- The registrations are alike to this one, which is one of them: the command is refused of each or of none, and each stands as this
 -- one does to what it is for. A command that reads tells each from the others.
@@ -30,10 +30,10 @@ abbrev pub AddsAlike : Possibilities → Place → TestedCommand → BitSet → 
 AddsAlike view place q alike old new =
     (s : Scope) → IsOwners s q.keys.now view place → Grows (view_in s view) q.command q.tests.now old new (HasOneOf s place alike)
 
--- what those leave in which the reservation of the place stands, and its sender has any registration
+-- what those leave in which the reservation of the place stands
 abbrev pub AddsPlace : Possibilities → Place → TestedCommand → Tally → Tally → Type 0
 AddsPlace view place q old new =
-    (s : Scope) → IsOwners s q.keys.now view place → Grows (view_in s view) q.command q.tests.now old new (HasFirst s place (length q.keys.now + 1))
+    (s : Scope) → IsOwners s q.keys.now view place → Grows (view_in s view) q.command q.tests.now old new (IsUnder s place)
 
 -- the old tally is of the reservations before that of the place, and the new one is of that one too
 abbrev pub AddsReservation : Possibilities → Place → TestedCommand → Tally → Tally → Type 0

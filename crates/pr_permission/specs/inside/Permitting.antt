@@ -1,6 +1,6 @@
 -- Whether a role permits a host's command, wherever the command ends GOOD.
-use Rattle.std.specs.Prelude.{◌≡◌, ◌↔◌, ℕ, ◌<◌, length, Bool, true, false, not, ◌==◌, ◌&&◌, IsTrue, List, Some, None, is_none}
-use Rattle.std.specs.List.{All as Each, list_any, slice_get}
+use Rattle.std.specs.Prelude.{◌≡◌, ◌↔◌, ℕ, Bool, true, false, not, ◌==◌, ◌&&◌, IsTrue, List, None, is_none}
+use Rattle.std.specs.List.{All as Each, Any, list_any}
 use Rattle.pr_cdb.specs.declared.command.Command.{Command}
 use Rattle.pr_unit.specs.UnitStates.{UnitState}
 use Rattle.pr_unit.specs.Conflicts.{command_conflicts}
@@ -69,14 +69,6 @@ pub record IsReached (v : View) (place : Place) (senders : BitSet) (b : Branch) 
   pub good : b.ending ≡ Good change
   pub there : IsThere v place senders b.region 0
 
--- so it is of one of the first n branches
-pub record IsOneReached (v : View) (place : Place) (senders : BitSet) (branches : List Branch) (n : ℕ) : Type 0 where
-  pub branch : Branch
-  pub index : ℕ
-  pub below : index < n
-  pub listed : slice_get branches index ≡ Some branch
-  pub reached : IsReached v place senders branch
-
 -- ---- what the walk over a view answers
 
 -- some clause permits the command of this sender in each state that its view shows and in which it ends GOOD
@@ -97,4 +89,4 @@ TellsReached view place senders b told =
 abbrev pub TellsOneReached : Possibilities → Place → BitSet → List Branch → Bool → Type 0
 TellsOneReached view place senders branches told =
     (s : Scope) → IsPlace s view place → IsUniform senders → has view.pending 0 ≡ true → Each IsProperBranch branches
-    → (IsTrue told ↔ IsOneReached (view_in s view) place senders branches (length branches))
+    → (IsTrue told ↔ Any (IsReached (view_in s view) place senders) branches)

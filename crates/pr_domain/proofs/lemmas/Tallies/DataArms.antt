@@ -1,5 +1,5 @@
 -- READ KEYS and READ RESERVATION: which arm takes their data.
-use Rattle.pr_domain.proofs.Common.{◌≡◌, ℕ, ◌+◌, ◌<◌, ◌≤◌, true, false, ◌||◌, ◌⊎◌, List, length, IfSome, IfNone, ◌==◌, slice_get, Some, None, All, Contains, Option, sym, refl, ap, ◌∙◌, subst, inl, inr, arith, false≢true, and_parts, cases_order, cases_eq, nat_tests, same_Some, slice_get-get_or, has, BitSet, Command, State, key_of, good, data_of, UnitState, is_written_key, test_fits, matches, Test, view_in, Scope, Shows, Possibilities, one_registration, IsPlace, IsAt, purpose_of, is_refused, first_test, standing_of, Place, Branch, Reading, Transition, same_reservation, Tally, arm_of, Grows, IsRight, HasBoth, IsOwners, IsReadAt, IsReadFirst, MOST_ARMS}
+use Rattle.pr_domain.proofs.Common.{◌≡◌, ℕ, ◌<◌, ◌≤◌, true, false, ◌||◌, List, length, IfSome, IfNone, ◌==◌, Some, None, All, Contains, Option, sym, refl, ap, ◌∙◌, subst, arith, false≢true, and_parts, nat_tests, slice_get-get_or, has, BitSet, Command, State, key_of, good, data_of, UnitState, is_written_key, test_fits, matches, Test, view_in, Scope, Shows, Possibilities, one_registration, IsPlace, IsAt, purpose_of, is_refused, first_test, standing_of, Place, Branch, Reading, Transition, same_reservation, arm_of, IsRight, HasBoth, IsOwners, IsReadAt, IsReadFirst, MOST_ARMS}
 use Rattle.std.proofs.Common.{position}
 use Rattle.std.proofs.lemmas.Bool.{or_parts}
 use Rattle.std.proofs.lemmas.List.Elements.{All-weaker}
@@ -19,7 +19,6 @@ use Rattle.pr_domain.specs.inside.Tallies.{way_of, IsRightReading, AreRightReadi
 use Rattle.pr_domain.specs.inside.Reporting.{looks, takes, AreBlind}
 use Rattle.pr_domain.proofs.lemmas.Reporting.MatchingTests.{first_of_class}
 use Rattle.pr_regions.proofs.lemmas.Portions.GatheredStates.{number_at}
-use Rattle.pr_domain.proofs.lemmas.Tallies.Growth.{grows_then, grows_from_none}
 use Rattle.pr_domain.proofs.lemmas.Tallies.Requests.{only_uniform, sender_is}
 
 -- the way is that of the arm
@@ -59,32 +58,6 @@ at_read s view place r w b u is only shown read = record {
   sender = λ t so. let same = one_registration s u place.sender t r is.fits.scope so read.0.registered in only t ∙ grind (arith, nat_tests);
   inside = read.1;
 }
-
--- one reading more
-pub readings_more : (s : Scope) (c : Command) (tests : List Test) (view : Possibilities) (place : Place) (r : ℕ) (readings : List Reading) (n : ℕ) (b : Reading) (old mid new : Tally)
-    → slice_get readings n ≡ Some b → Grows (view_in s view) c tests old mid (IsReadFirst s view place r readings n) → Grows (view_in s view) c tests mid new (IsReadAt s view place r b)
-    → Grows (view_in s view) c tests old new (IsReadFirst s view place r readings (n + 1))
-readings_more s c tests view place r readings n b old mid new is =
-    grows_then (view_in s view) c tests old mid new (IsReadFirst s view place r readings n) (IsReadAt s view place r b) (IsReadFirst s view place r readings (n + 1))
-    (λ u shown first. record { index = first.index; below = (let e = first.below in omega arith); reading = first.reading; listed = first.listed; at = first.at })
-    (λ u shown at. record { index = n; below = omega arith; reading = b; listed = is; at = at })
-    (λ u shown first. either u first (cases_eq first.index n))
-  where
-    either : (u : UnitState) (first : IsReadFirst s view place r readings (n + 1) u) → (first.index ≡ n) ⊎ (first.index ≡ n → ⊥) → IsReadFirst s view place r readings n u ⊎ IsReadAt s view place r b u
-    either u first (inl same) =
-        let one : first.reading ≡ b = same_Some first.reading b (sym first.listed ∙ ap (slice_get readings) same ∙ is) in
-        inr (subst (λ x. IsReadAt s view place r x u) one first.at)
-    either u first (inr other) = inl (record {
-      index = first.index;
-      below = (let e = first.below in let o : first.index < n = omega (arith, cases_order first.index n) in o);
-      reading = first.reading;
-      listed = first.listed;
-      at = first.at;
-    })
-
-pub readings_none : (s : Scope) (c : Command) (tests : List Test) (view : Possibilities) (place : Place) (r : ℕ) (readings : List Reading) (t : Tally)
-    → Grows (view_in s view) c tests t t (IsReadFirst s view place r readings 0)
-readings_none s c tests view place r readings t = grows_from_none (view_in s view) c tests t (IsReadFirst s view place r readings 0) (λ u shown first. absurd (let e = first.below in omega arith))
 
 -- ---- what is known of them
 
@@ -136,13 +109,7 @@ pub readings_cover : (s : Scope) (keys : List ℕ) (c : Command) (tests : List T
 readings_cover s keys c tests view place r readings owners are u shown both =
     let read = (are s.hosts).covered s u owners.same_keys refl owners.is.fits.scope shown.formed shown.hosts (λ g below. let seen = shown.registrations g below in (seen.0, seen.1.1))
     (same_reservation s view place u owners.is shown both.reserved) both.registered in
-    record {
-      index = read.listed.0;
-      below = read.listed.1;
-      reading = read.reading;
-      listed = slice_get-get_or readings read.listed.0 read.reading read.listed.1 ∙ ap (λ b. Some b) read.listed.2;
-      at = (both, read.inside);
-    }
+    (read.listed.0, read.listed.1, (read.reading, slice_get-get_or readings read.listed.0 read.reading read.listed.1 ∙ ap (λ b. Some b) read.listed.2, (both, read.inside)))
 
 -- ---- the other commands
 

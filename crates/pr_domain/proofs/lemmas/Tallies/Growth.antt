@@ -1,5 +1,5 @@
 -- Tallies that grow step by step.
-use Rattle.pr_domain.proofs.Common.{◌≡◌, ℕ, ◌+◌, ◌<◌, true, ◌⊎◌, List, slice_get, Some, Contains, sym, ap, ◌∙◌, subst, inl, inr, arith, cases_order, cases_eq, same_Some, slice_get_within, get_or_from_slice_get, BitSet, Command, UnitState, Test, view_in, Scope, Item, View, Shows, Possibilities, IsAt, Place, Branch, Tally, has_tallied, Leaves, IsFound, Grows, IsInOne}
+use Rattle.pr_domain.proofs.Common.{◌≡◌, ℕ, ◌+◌, ◌<◌, true, ◌⊎◌, List, slice_get, Some, Contains, sym, ◌∙◌, subst, inl, inr, arith, cases_order, cases_eq, same_Some, slice_get_within, get_or_from_slice_get, Command, UnitState, Test, Item, View, Shows, Branch, Tally, has_tallied, Leaves, IsFound, Grows, OneBelow, IsOfPlace}
 
 -- found among these, and so among those
 found_as : (v : View) (c : Command) (tests : List Test) (A B : UnitState → Type 0) (way : ℕ) (i : Item) (q : ℕ) → ((u : UnitState) → Shows v u → A u → B u)
@@ -50,27 +50,27 @@ grows_from_none v c tests t A nobody = record {
   only = λ way i q has pending. inl has;
 }
 
--- one branch more
-pub branches_more : (s : Scope) (c : Command) (tests : List Test) (view : Possibilities) (place : Place) (senders : BitSet) (branches : List Branch) (n : ℕ) (b : Branch) (old mid new : Tally)
-    → slice_get branches n ≡ Some b → Grows (view_in s view) c tests old mid (IsInOne (view_in s view) place senders branches n)
-    → Grows (view_in s view) c tests mid new (IsAt (view_in s view) place senders b.region)
-    → Grows (view_in s view) c tests old new (IsInOne (view_in s view) place senders branches (n + 1))
-branches_more s c tests view place senders branches n b old mid new is first second =
-    grows_then v c tests old mid new (IsInOne v place senders branches n) (IsAt v place senders b.region) (IsInOne v place senders branches (n + 1))
-    (λ u shown one. record { index = one.index; below = (let e = one.below in omega arith); branch = one.branch; listed = one.listed; at = one.at })
-    (λ u shown at. record { index = n; below = omega arith; branch = b; listed = is; at = at })
-    (λ u shown one. either u one (cases_eq one.index n)) first second
+-- of one number more
+pub grows_more : (v : View) (c : Command) (tests : List Test) (old mid new : Tally) (IsOf : ℕ → UnitState → Type 0) (n : ℕ) (Here : UnitState → Type 0)
+    → ((u : UnitState) → Shows v u → Here u → IsOf n u) → ((u : UnitState) → Shows v u → IsOf n u → Here u)
+    → Grows v c tests old mid (OneBelow n IsOf) → Grows v c tests mid new Here → Grows v c tests old new (OneBelow (n + 1) IsOf)
+grows_more v c tests old mid new IsOf n Here to from =
+    grows_then v c tests old mid new (OneBelow n IsOf) Here (OneBelow (n + 1) IsOf)
+    (λ u shown one. (one.0, (let e = one.1 in omega arith), one.2))
+    (λ u shown here. (n, omega arith, to u shown here))
+    (λ u shown one. either u shown one (cases_eq one.0 n))
   where
-    v : View
-    v = view_in s view
+    either : (u : UnitState) → Shows v u → (one : OneBelow (n + 1) IsOf u) → (one.0 ≡ n) ⊎ (one.0 ≡ n → ⊥) → OneBelow n IsOf u ⊎ Here u
+    either u shown one (inl same) = inr (from u shown (subst (λ k. IsOf k u) same one.2))
+    either u shown one (inr other) = inl (one.0, (let e = one.1 in let o : one.0 < n = omega (arith, cases_order one.0 n) in o), one.2)
 
-    either : (u : UnitState) (one : IsInOne (view_in s view) place senders branches (n + 1) u) → (one.index ≡ n) ⊎ (one.index ≡ n → ⊥)
-        → IsInOne (view_in s view) place senders branches n u ⊎ IsAt (view_in s view) place senders b.region u
-    either u one (inl same) =
-        let branch : one.branch ≡ b = same_Some one.branch b (sym one.listed ∙ ap (slice_get branches) same ∙ is) in
-        inr (subst (λ x. IsAt (view_in s view) place senders x.region u) branch one.at)
-    either u one (inr other) =
-        inl (record { index = one.index; below = (let e = one.below in let o : one.index < n = omega (arith, cases_order one.index n) in o); branch = one.branch; listed = one.listed; at = one.at })
+-- of one element more
+pub element_more : {X : Type 0} (v : View) (c : Command) (tests : List Test) (old mid new : Tally) (xs : List X) (IsOf : X → UnitState → Type 0) (n : ℕ) (x : X) → slice_get xs n ≡ Some x
+    → Grows v c tests old mid (OneBelow n (IsOfPlace xs IsOf)) → Grows v c tests mid new (IsOf x) → Grows v c tests old new (OneBelow (n + 1) (IsOfPlace xs IsOf))
+element_more v c tests old mid new xs IsOf n x is =
+    grows_more v c tests old mid new (IsOfPlace xs IsOf) n (IsOf x)
+    (λ u shown of. (x, is, of))
+    (λ u shown of. subst (λ y. IsOf y u) (same_Some of.0 x (sym of.1 ∙ is)) of.2)
 
 pub listed_there : (branches : List Branch) (n : ℕ) (b : Branch) → slice_get branches n ≡ Some b → Contains branches b
 listed_there branches n b is = (n, slice_get_within branches n b is, get_or_from_slice_get branches n b b is)

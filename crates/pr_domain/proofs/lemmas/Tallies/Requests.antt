@@ -105,23 +105,18 @@ pub asked_covers : (s : Scope) (c : Command) (tests : List Test) (view : Possibi
 asked_covers s c tests view place purpose arm w standing branches asked are u shown one =
     let decided = are s u c asked.is.hosts (meets s c tests view place purpose arm w standing u asked shown one) in
     let covered = decided.covered in
-    record {
-      index = covered.listed.0;
-      below = covered.listed.1;
-      branch = covered.branch;
-      listed = slice_get-get_or branches covered.listed.0 covered.branch covered.listed.1 ∙ ap (λ b. Some b) covered.listed.2;
-      at = record {
-        shown = shown;
-        reservation = one.reserved;
-        sender = λ t so. among_senders s view place w u asked.is one t so;
-        inside = covered.inside;
-      };
-    }
+    let at : IsAt (view_in s view) place w covered.branch.region u = record {
+      shown = shown;
+      reservation = one.reserved;
+      sender = λ t so. among_senders s view place w u asked.is one t so;
+      inside = covered.inside;
+    } in
+    (covered.listed.0, covered.listed.1, (covered.branch, slice_get-get_or branches covered.listed.0 covered.branch covered.listed.1 ∙ ap (λ b. Some b) covered.listed.2, at))
 
 pub asked_back : (s : Scope) (c : Command) (tests : List Test) (view : Possibilities) (place : Place) (purpose : Purpose) (arm : ℕ) (w : BitSet) (standing : Standing) (branches : List Branch)
     → IsAsked s c tests view place purpose arm w standing → (n : ℕ)
     → (u : UnitState) → Shows (view_in s view) u → IsInOne (view_in s view) place w branches n u → HasOneOf s place w u
-asked_back s c tests view place purpose arm w standing branches asked n u shown one = sender_among s view place w one.branch.region u asked.is one.at
+asked_back s c tests view place purpose arm w standing branches asked n u shown one = sender_among s view place w one.2.0.region u asked.is one.2.2
 
 -- ---- a key that is not accepted
 

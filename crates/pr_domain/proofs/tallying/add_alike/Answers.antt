@@ -29,7 +29,7 @@ returns-then-is_reading c s owners =
     (λ u shown one. this_alone s c.args.place c.args.registration c.args.alike (c.requires.alike.read (sym c.is_reading.ensures ∙ c.if-is_reading.true)) u one)
     (grows_as (view_in s c.args.view.now) c.args.asked.now.command c.args.asked.now.tests.now c.args.tally.now c.add_readings.new.tally
     (IsReadFirst s c.args.view.now c.args.place c.args.registration c.deref.result.now (length c.deref.result.now)) (HasBoth s c.args.place c.args.registration)
-    (λ u shown first. first.at.0)
+    (λ u shown first. first.2.2.0)
     (λ u shown both. readings_cover s c.args.asked.now.keys.now c.args.asked.now.command c.args.asked.now.tests.now c.args.view.now c.args.place c.args.registration c.deref.result.now owners (are c) u shown both)
     (c.add_readings.ensures s c.args.asked.now.command c.args.asked.now.tests.now (right_readings s c.args.asked.now.keys.now c.args.asked.now.command c.args.asked.now.tests.now c.args.view.now c.args.place c.args.registration c.deref.result.now owners
     (sym c.is_reading.ensures ∙ c.if-is_reading.true) c.args.asked.now.few (are c) (proper c))))

@@ -1,4 +1,4 @@
-use Rattle.pr_domain.proofs.Common.{◌≡◌, ℕ, ◌+◌, ◌<◌, Bool, true, false, not, ◌&&◌, ◌⊎◌, length, sym, refl, ap, ◌∙◌, subst, inl, inr, arith, false≢true, has, has_at, view_in, holds_at-get_or, Grows, HasOneOf, HasFirst}
+use Rattle.pr_domain.proofs.Common.{◌≡◌, ℕ, ◌+◌, ◌<◌, Bool, true, false, not, ◌&&◌, ◌⊎◌, length, sym, refl, ap, ◌∙◌, subst, inl, inr, arith, false≢true, has, has_at, view_in, holds_at-get_or, Grows, HasOneOf}
 use Rattle.std.proofs.Common.{below_more}
 use Rattle.std.specs.Prelude.{slice_index_or, ◌≤◌, List}
 use Rattle.std.proofs.lemmas.Bool.{cases_lt, or_left, or_right}
@@ -63,9 +63,7 @@ loop-registration-preserved c =
 pub returns : goal.returns
 returns c s owners =
     let whole : c.loop-registration.registration ≡ length c.args.asked.now.keys.now + 1 = omega arith in
-    let sender = c.from.ensures in
-    let grows = senders_all s c.args.asked.now.command c.args.asked.now.tests.now c.args.view.now c.args.place c.loop-registration.registration c.loop-registration.done c.args.tally.now c.loop-registration.tally owners.is
-    (whole ∙ ap (λ k. length k + 1) (sym owners.same_keys))
-    (λ r small may. c.loop-registration.invariant.done r small (has_here c.args.view.now.registrations c.from.result r _ (subst (λ g. has_at c.args.view.now.registrations g r ≡ true) (sym sender) may)))
-    (c.loop-registration.invariant.grows s owners) in
-    subst (λ n. Grows (view_in s c.args.view.now) c.args.asked.now.command c.args.asked.now.tests.now c.args.tally.now c.loop-registration.tally (HasFirst s c.args.place n)) whole grows
+    senders_all s c.args.asked.now.command c.args.asked.now.tests.now c.args.view.now c.args.place c.loop-registration.done c.args.tally.now c.loop-registration.tally owners.is
+    (λ r small may. c.loop-registration.invariant.done r (subst (λ n. r < n) (ap (λ k. length k + 1) owners.same_keys ∙ sym whole) small)
+    (has_here c.args.view.now.registrations c.from.result r _ (subst (λ g. has_at c.args.view.now.registrations g r ≡ true) (sym c.from.ensures) may)))
+    (c.loop-registration.invariant.grows s owners)

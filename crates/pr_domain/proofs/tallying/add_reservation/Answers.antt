@@ -1,4 +1,4 @@
-use Rattle.pr_domain.proofs.Common.{◌≡◌, ◌+◌, true, length, All, sym, refl, ◌∙◌, subst, is_written, test_fits, view_in, Grows, HasFirst}
+use Rattle.pr_domain.proofs.Common.{◌≡◌, true, All, sym, ◌∙◌, subst, is_written, test_fits}
 use Rattle.pr_domain.proofs.lemmas.Twins.RetypedStates.{twin_grows}
 use Rattle.pr_domain.proofs.lemmas.Tallies.ShownStates.{reservation_more}
 use Rattle.pr_domain.proofs.tallying.add_reservation.Goals as goal
@@ -14,6 +14,4 @@ returns-in-Some c s none owners nothing before =
 
 pub returns : goal.returns
 returns c s none owners nothing before =
-    let place = c.args.place in
-    reservation_more s c.args.asked.now.command c.args.asked.now.tests.now c.args.view.now place place.reservation none c.args.tally.now c.add_place.new.tally owners.is refl before
-    (subst (λ k. Grows (view_in s c.args.view.now) c.args.asked.now.command c.args.asked.now.tests.now c.args.tally.now c.add_place.new.tally (HasFirst s place (length k + 1))) (sym owners.same_keys) (c.add_place.ensures s owners))
+    reservation_more s c.args.asked.now.command c.args.asked.now.tests.now c.args.view.now c.args.place none c.args.tally.now c.add_place.new.tally before (c.add_place.ensures s owners)

@@ -1,6 +1,9 @@
 -- Where a command ends GOOD, and what a role says of it there.
-use Rattle.pr_permission.proofs.Common.{MOST_REGISTRATIONS, ◌≡◌, ℕ, zero, suc, ◌+◌, ◌<◌, ◌≤◌, Bool, true, false, not, ◌&&◌, ◌||◌, ◌⊎◌, ◌↔◌, List, [], ◌∷◌, length, is_some, IfSome, IfNone, IsTrue, ◌==◌, slice_get, Some, None, All, Contains, Option, sym, refl, ap, ◌∙◌, subst, inl, inr, arith, list_any, false≢true, and_parts, cases_order, cases_eq, nat_tests, same_Some, has_wide, has, BitSet, Command, Sense, State, key_of, UnitState, is_written_key, is_written, has_at, view_in, Scope, key_at, count_of_reservations, Registration, Reservation, IsSo, View, Shows, Possibilities, one_registration, IsPlace, IsUniform, IsAt, purpose_of, is_refused, standing_of, AreBranches, Place, Branch, Transition, same_reservation, ArePermitted, scope_at, IsRight, IsInOne, HasFirst, HasBoth, IsReserved}
-use Rattle.std.proofs.Common.{is_none}
+use Rattle.pr_permission.proofs.Common.{MOST_REGISTRATIONS, ◌≡◌, ℕ, zero, suc, ◌<◌, ◌≤◌, Bool, true, false, not, ◌&&◌, ◌||◌, ◌↔◌, List, [], ◌∷◌, length, is_some, IfSome, IfNone, IsTrue, ◌==◌, Some, None, All, Contains, Option, sym, refl, ap, ◌∙◌, subst, arith, list_any, false≢true, and_parts, nat_tests, slice_get-get_or, has_wide, has, BitSet, Command, Sense, State, key_of, UnitState, is_written_key, is_written, has_at, view_in, Scope, key_at, count_of_reservations, Reservation, IsSo, View, Shows, Possibilities, one_registration, IsPlace, IsUniform, IsAt, purpose_of, is_refused, standing_of, AreBranches, Place, Branch, Transition, same_reservation, ArePermitted, scope_at, IsRight, IsInOne, HasBoth}
+use Rattle.std.proofs.Common.{is_none, Any}
+use Rattle.std.specs.Prelude.{MatchBool}
+use Rattle.std.specs.List.{HoldsAt, AllWithin}
+use Rattle.std.proofs.lemmas.List.Elements.{Contains-get_or}
 use Rattle.std.proofs.lemmas.List.Folds.{Any-from_list_any, list_any-from_Any}
 use Rattle.pr_cdb.specs.declared.command.Command.TheVariants as command
 use Rattle.pr_registry.specs.Registrations.{is_registered}
@@ -15,10 +18,10 @@ use Rattle.pr_regions.specs.declared.region.Ending.TheVariants as ending
 use Rattle.pr_regions.specs.Conditions.{holds_as}
 use Rattle.pr_regions.specs.Purposes.{names_written}
 use Rattle.pr_regions.specs.Regions.{Ends, IsProper as IsProperBranch}
-use Rattle.pr_regions.specs.Gathering.{IsProper, IsGathered}
+use Rattle.pr_regions.specs.Gathering.{IsProper, IsGathered, IsThere}
 use Rattle.pr_domain.specs.inside.Tallies.{IsAsked}
 use Rattle.pr_permission.specs.declared.permitting.Asking.{Asking}
-use Rattle.pr_permission.specs.inside.Permitting.{EndsGood, IsAsking, permits_at, IsReached, IsOneReached, IsOneRefused, permits_always}
+use Rattle.pr_permission.specs.inside.Permitting.{EndsGood, IsAsking, permits_at, IsReached, IsOneRefused, permits_always}
 use Rattle.pr_regions.proofs.lemmas.Conditions.Senders.{holds_by}
 use Rattle.pr_regions.proofs.lemmas.Portions.GatheredStates.{few_keys}
 use Rattle.pr_domain.proofs.lemmas.Tallies.Growth.{listed_there}
@@ -51,16 +54,15 @@ is_reached s view place senders b change (Some words) there is uniform idle prop
 is_reached s view place senders b change None there is uniform idle proper good tells some none =
     (λ yes. absurd (false≢true (sym tells ∙ yes)), λ reached. absurd (none s is uniform proper reached.there.unit reached.there.at))
 
-pub more_unreached : (v : View) (place : Place) (senders : BitSet) (branches : List Branch) (n : ℕ) (b : Branch) → slice_get branches n ≡ Some b
-    → (IsOneReached v place senders branches n → ⊥) → (IsReached v place senders b → ⊥) → IsOneReached v place senders branches (n + 1) → ⊥
-more_unreached v place senders branches n b is before here one = at (cases_eq one.index n)
-  where
-    at : (one.index ≡ n) ⊎ (one.index ≡ n → ⊥) → ⊥
-    at (inl same) =
-        let branch : one.branch ≡ b = same_Some one.branch b (sym one.listed ∙ ap (slice_get branches) same ∙ is) in
-        here (subst (λ x. IsReached v place senders x) branch one.reached)
-    at (inr other) =
-        before (record { branch = one.branch; index = one.index; below = (let e = one.below in let o : one.index < n = omega (arith, cases_order one.index n) in o); listed = one.listed; reached = one.reached })
+-- where each call of `any` tells it of its element, the answer tells it of one
+pub any_tells : {X : Type 0} (Is Yes No : X → Type 0) (r : Bool) (xs : List X) → ((x : X) → Contains xs x → Yes x → Is x) → ((x : X) → Contains xs x → No x → Is x → ⊥)
+    → MatchBool r ((k : ℕ) × (k < length xs) × HoldsAt Yes xs k) (AllWithin No xs 0 (length xs)) → IsTrue r ↔ Any Is xs
+any_tells Is Yes No true [] is isnt found = let below = found.1 in absurd (omega arith)
+any_tells Is Yes No true (x ∷ xs) is isnt found =
+    let there = Contains-get_or (x ∷ xs) found.0 x found.1 in
+    (λ t. (there.0, _, there.1, there.2, is _ there (found.2 x)), λ one. refl)
+any_tells Is Yes No false xs is isnt none =
+    (λ t. absurd (false≢true t), λ one. absurd (isnt one.1 (one.0, one.2, one.3) (subst No one.3 (none one.0 one.1 (omega arith) one.2)) one.4))
 
 -- ---- clauses
 
@@ -125,9 +127,9 @@ reached_where_good : (keys : List ℕ) (c : Command) (view : Possibilities) (pla
     → IsThis keys c view place → purpose_of keys c ≡ Some purpose → is_refused (key_at keys r) c ≡ false → ((m : ℕ) → has w m ≡ (m == r))
     → AreBranches place.hosts purpose place.held place.sender (standing_of purpose r) branches → ((b : Branch) → Contains branches b → IsProperBranch b)
     → (u : UnitState) → Shows (view_in (scope_at keys place.hosts place.sender) view) u → HasBoth (scope_at keys place.hosts place.sender) place r u
-    → EndsGood (scope_at keys place.hosts place.sender) c u → IsOneReached (view_in (scope_at keys place.hosts place.sender) view) place w branches (length branches)
+    → EndsGood (scope_at keys place.hosts place.sender) c u → Any (IsReached (view_in (scope_at keys place.hosts place.sender) view) place w) branches
 reached_where_good keys c view place purpose r w branches this asks accepted only are proper u shown both ends =
-    by_ending one.branch.ending refl (right.ends u one.at)
+    by_ending one.2.0.ending refl (right.ends u one.2.2)
   where
     s : Scope
     s = scope_at keys place.hosts place.sender
@@ -141,24 +143,21 @@ reached_where_good keys c view place purpose r w branches this asks accepted onl
         asked_covers s c [] view place purpose 0 w (standing_of purpose r) branches known are u shown
         (record { registration = r; among = only r ∙ itself; reserved = both.reserved; registered = both.registered })
 
-    right : IsRight (scope_at keys place.hosts place.sender) c [] view place w one.branch 0
-    right = asked_right s c [] view place purpose 0 w (standing_of purpose r) branches known are proper one.branch (listed_there branches one.index one.branch one.listed)
+    there : Contains branches one.2.0
+    there = listed_there branches one.0 one.2.0 one.2.1
+
+    right : IsRight (scope_at keys place.hosts place.sender) c [] view place w one.2.0 0
+    right = asked_right s c [] view place purpose 0 w (standing_of purpose r) branches known are proper one.2.0 there
 
     none_some : (sense : Sense) → None ≡ Some sense → ⊥
     none_some sense same = let bad : None ≡ Some sense = same in cc
 
-    by_ending : (e : Ending) → one.branch.ending ≡ e → Ends (scope_at keys place.hosts place.sender) place.sender e u c
-        → IsOneReached (view_in (scope_at keys place.hosts place.sender) view) place w branches (length branches)
+    by_ending : (e : Ending) → one.2.0.ending ≡ e → Ends (scope_at keys place.hosts place.sender) place.sender e u c
+        → Any (IsReached (view_in (scope_at keys place.hosts place.sender) view) place w) branches
     by_ending ending.Conflict is ended = absurd (false≢true (sym ends.free ∙ ended))
     by_ending (ending.Fault sense) is ended = absurd (none_some sense (sym ends.whole ∙ ended.1))
     by_ending (ending.Good change) is ended =
-        record {
-          branch = one.branch;
-          index = one.index;
-          below = one.below;
-          listed = one.listed;
-          reached = record { change = change; good = is; there = record { unit = u; at = one.at; pending = ends.idle } };
-        }
+        (there.0, one.2.0, there.1, there.2, record { change = change; good = is; there = record { unit = u; at = one.2.2; pending = ends.idle } })
 
 -- and the other way round
 pub record IsGoodWith (keys : List ℕ) (c : Command) (view : Possibilities) (place : Place) (r : ℕ) : Type 0 where
@@ -170,32 +169,35 @@ pub record IsGoodWith (keys : List ℕ) (c : Command) (view : Possibilities) (pl
 good_where_reached : (keys : List ℕ) (c : Command) (view : Possibilities) (place : Place) (purpose : Purpose) (r : ℕ) (w : BitSet) (branches : List Branch)
     → IsThis keys c view place → purpose_of keys c ≡ Some purpose → is_refused (key_at keys r) c ≡ false → ((m : ℕ) → has w m ≡ (m == r))
     → AreBranches place.hosts purpose place.held place.sender (standing_of purpose r) branches → ((b : Branch) → Contains branches b → IsProperBranch b)
-    → IsOneReached (view_in (scope_at keys place.hosts place.sender) view) place w branches (length branches) → IsGoodWith keys c view place r
+    → Any (IsReached (view_in (scope_at keys place.hosts place.sender) view) place w) branches → IsGoodWith keys c view place r
 good_where_reached keys c view place purpose r w branches this asks accepted only are proper one = record {
-  unit = one.reached.there.unit;
-  shown = one.reached.there.at.shown;
-  both = this_alone s place r w (this_is r w only) one.reached.there.unit
-      (asked_back s c [] view place purpose 0 w (standing_of purpose r) branches known (length branches) one.reached.there.unit one.reached.there.at.shown
-      (record { index = one.index; below = one.below; branch = one.branch; listed = one.listed; at = one.reached.there.at }));
-  ends = record { idle = one.reached.there.pending; free = ended.0; whole = ended.1 };
+  unit = found.unit;
+  shown = found.at.shown;
+  both = this_alone s place r w (this_is r w only) found.unit
+      (asked_back s c [] view place purpose 0 w (standing_of purpose r) branches known (length branches) found.unit found.at.shown
+      (one.0, one.2, (one.1, slice_get-get_or branches one.0 one.1 one.2 ∙ ap (λ b. Some b) one.3, found.at)));
+  ends = record { idle = found.pending; free = ended.0; whole = ended.1 };
 }
   where
     s : Scope
     s = scope_at keys place.hosts place.sender
 
+    found : IsThere (view_in (scope_at keys place.hosts place.sender) view) place w one.1.region 0
+    found = one.4.there
+
     known : IsAsked (scope_at keys place.hosts place.sender) c [] view place purpose 0 w (standing_of purpose r)
     known = asked keys c view place purpose r w this asks accepted only
 
-    right : IsRight (scope_at keys place.hosts place.sender) c [] view place w one.branch 0
-    right = asked_right s c [] view place purpose 0 w (standing_of purpose r) branches known are proper one.branch (listed_there branches one.index one.branch one.listed)
+    right : IsRight (scope_at keys place.hosts place.sender) c [] view place w one.1 0
+    right = asked_right s c [] view place purpose 0 w (standing_of purpose r) branches known are proper one.1 (one.0, one.2, one.3)
 
-    ended : Ends (scope_at keys place.hosts place.sender) place.sender (ending.Good one.reached.change) one.reached.there.unit c
-    ended = subst (λ e. Ends (scope_at keys place.hosts place.sender) place.sender e one.reached.there.unit c) one.reached.good (right.ends one.reached.there.unit one.reached.there.at)
+    ended : Ends (scope_at keys place.hosts place.sender) place.sender (ending.Good one.4.change) found.unit c
+    ended = subst (λ e. Ends (scope_at keys place.hosts place.sender) place.sender e found.unit c) one.4.good (right.ends found.unit found.at)
 
 pub one_registration_permitted : (keys : List ℕ) (c : Command) (view : Possibilities) (place : Place) (purpose : Purpose) (r : ℕ) (w : BitSet) (branches listed : List Branch) (clauses : List Clause) (standing : Standing) (key : Option ℕ) (refused reached result : Bool)
     → IsThis keys c view place → Some purpose ≡ purpose_of keys c → key ≡ key_at keys r → refused ≡ is_refused key c → refused ≡ false → ((m : ℕ) → has w m ≡ (m == r))
     → standing ≡ standing_of purpose r → AreBranches place.hosts purpose place.held place.sender standing listed → All IsProperBranch listed → branches ≡ listed
-    → (IsUniform w → All IsProperBranch branches → IsTrue reached ↔ IsOneReached (view_in (scope_at keys place.hosts place.sender) view) place w branches (length branches))
+    → (IsUniform w → All IsProperBranch branches → IsTrue reached ↔ Any (IsReached (view_in (scope_at keys place.hosts place.sender) view) place w) branches)
     → result ≡ (not reached || list_any (λ clause. permits_at clause c place r) clauses)
     → (IsTrue result → ArePermitted (view_in (scope_at keys place.hosts place.sender) view) clauses c (HasBoth (scope_at keys place.hosts place.sender) place r))
     × (result ≡ false → IsOneRefused (view_in (scope_at keys place.hosts place.sender) view) clauses c (HasBoth (scope_at keys place.hosts place.sender) place r))
@@ -215,7 +217,7 @@ one_registration_permitted keys c view place purpose r w branches listed clauses
     taken : is_refused (key_at keys r) c ≡ false
     taken = ap (λ k. is_refused k c) (sym keyed) ∙ sym tells ∙ accepted
 
-    at : (b : Bool) → IsTrue b ↔ IsOneReached (view_in (scope_at keys place.hosts place.sender) view) place w branches (length branches)
+    at : (b : Bool) → IsTrue b ↔ Any (IsReached (view_in (scope_at keys place.hosts place.sender) view) place w) branches
         → result ≡ (not b || list_any (λ clause. permits_at clause c place r) clauses)
         → (IsTrue result → ArePermitted (view_in (scope_at keys place.hosts place.sender) view) clauses c (HasBoth (scope_at keys place.hosts place.sender) place r))
         × (result ≡ false → IsOneRefused (view_in (scope_at keys place.hosts place.sender) view) clauses c (HasBoth (scope_at keys place.hosts place.sender) place r))
@@ -264,27 +266,6 @@ pub permitted_as : (v : View) (clauses : List Clause) (c : Command) (A B : UnitS
     → ArePermitted v clauses c A → ArePermitted v clauses c B
 permitted_as v clauses c A B from permitted u shown among ends = permitted u shown (from u shown among) ends
 
-permitted_both : (v : View) (clauses : List Clause) (c : Command) (A B C : UnitState → Type 0) → ((u : UnitState) → Shows v u → C u → A u ⊎ B u)
-    → ArePermitted v clauses c A → ArePermitted v clauses c B → ArePermitted v clauses c C
-permitted_both v clauses c A B C either first second u shown among ends = at (either u shown among)
-  where
-    at : A u ⊎ B u → IsTrue (list_any (λ clause. clause_permits clause u.registry v.scope.own c) clauses)
-    at (inl a) = first u shown a ends
-    at (inr b) = second u shown b ends
-
-pub no_registration_yet : (s : Scope) (view : Possibilities) (clauses : List Clause) (c : Command) (place : Place) → ArePermitted (view_in s view) clauses c (HasFirst s place 0)
-no_registration_yet s view clauses c place u shown among ends = let below = among.below in absurd (omega arith)
-
-pub one_registration_more : (s : Scope) (view : Possibilities) (clauses : List Clause) (c : Command) (place : Place) (n : ℕ) → ArePermitted (view_in s view) clauses c (HasFirst s place n)
-    → ArePermitted (view_in s view) clauses c (HasBoth s place n) → ArePermitted (view_in s view) clauses c (HasFirst s place (n + 1))
-one_registration_more s view clauses c place n before here =
-    permitted_both (view_in s view) clauses c (HasFirst s place n) (HasBoth s place n) (HasFirst s place (n + 1)) (λ u shown first. at u first (cases_eq first.registration n)) before here
-  where
-    at : (u : UnitState) (first : HasFirst s place (n + 1) u) → (first.registration ≡ n) ⊎ (first.registration ≡ n → ⊥) → HasFirst s place n u ⊎ HasBoth s place n u
-    at u first (inl same) = inr (record { reserved = first.reserved; registered = subst (λ r. IsSo s u (Registration place.sender r)) same first.registered })
-    at u first (inr other) =
-        inl (record { registration = first.registration; below = (let e = first.below in let o : first.registration < n = omega (arith, cases_order first.registration n) in o); reserved = first.reserved; registered = first.registered })
-
 -- a registration that the sender has not
 pub not_registered : (keys : List ℕ) (c : Command) (view : Possibilities) (place : Place) (clauses : List Clause) (r : ℕ) → IsThis keys c view place → has_at view.registrations place.sender r ≡ false
     → ArePermitted (view_in (scope_at keys place.hosts place.sender) view) clauses c (HasBoth (scope_at keys place.hosts place.sender) place r)
@@ -294,25 +275,13 @@ not_registered keys c view place clauses r this none u shown both ends =
     absurd (false≢true (sym none ∙ subst (λ n. has_at view.registrations place.sender n ≡ true) same seen.1.0.1))
 
 pub each_registration : (keys : List ℕ) (c : Command) (view : Possibilities) (place : Place) (clauses : List Clause) → IsThis keys c view place
-    → ArePermitted (view_in (scope_at keys place.hosts place.sender) view) clauses c (HasFirst (scope_at keys place.hosts place.sender) place MOST_REGISTRATIONS)
+    → ((r : ℕ) → r < MOST_REGISTRATIONS → ArePermitted (view_in (scope_at keys place.hosts place.sender) view) clauses c (HasBoth (scope_at keys place.hosts place.sender) place r))
     → ArePermitted (view_in (scope_at keys place.hosts place.sender) view) clauses c (λ u. IsSo (scope_at keys place.hosts place.sender) u (Reservation place.reservation))
 each_registration keys c view place clauses this permitted u shown reserved ends =
     let seen = shown.registrations place.sender place.there in
     let few = few_keys keys this.asking.fits.scope.keys in
     let small = seen.1.1.1 in
-    permitted u shown (record { registration = seen.0; below = omega arith; reserved = reserved; registered = seen.1.1 }) ends
-
-pub no_reservation_yet : (s : Scope) (view : Possibilities) (clauses : List Clause) (c : Command) → ArePermitted (view_in s view) clauses c (IsReserved s 0)
-no_reservation_yet s view clauses c u shown among ends = let below = among.below in absurd (omega arith)
-
-pub one_reservation_more : (s : Scope) (view : Possibilities) (clauses : List Clause) (c : Command) (n : ℕ) → ArePermitted (view_in s view) clauses c (IsReserved s n)
-    → ArePermitted (view_in s view) clauses c (λ u. IsSo s u (Reservation n)) → ArePermitted (view_in s view) clauses c (IsReserved s (n + 1))
-one_reservation_more s view clauses c n before here =
-    permitted_both (view_in s view) clauses c (IsReserved s n) (λ u. IsSo s u (Reservation n)) (IsReserved s (n + 1)) (λ u shown one. at u one (cases_eq one.reservation n)) before here
-  where
-    at : (u : UnitState) (one : IsReserved s (n + 1) u) → (one.reservation ≡ n) ⊎ (one.reservation ≡ n → ⊥) → IsReserved s n u ⊎ IsSo s u (Reservation n)
-    at u one (inl same) = inr (subst (λ x. IsSo s u (Reservation x)) same one.reserved)
-    at u one (inr other) = inl (record { reservation = one.reservation; below = (let e = one.below in let o : one.reservation < n = omega (arith, cases_order one.reservation n) in o); reserved = one.reserved })
+    permitted seen.0 (omega arith) u shown (record { reserved = reserved; registered = seen.1.1 }) ends
 
 -- a reservation that the view has not
 pub not_shown : (s : Scope) (view : Possibilities) (clauses : List Clause) (c : Command) (x : ℕ) → has_wide view.reservations x ≡ false
@@ -322,9 +291,9 @@ not_shown s view clauses c x none u shown so ends =
     absurd (false≢true (sym none ∙ subst (λ y. has_wide view.reservations y ≡ true) (one_reservation s u seen.0 x seen.1.1 so) seen.1.0))
 
 pub each_reservation : (keys : List ℕ) (hosts sender : ℕ) (c : Command) (view : Possibilities) (clauses : List Clause) (n : ℕ) → IsAsking keys hosts sender c view → count_of_reservations hosts ≤ n
-    → ArePermitted (view_in (scope_at keys hosts sender) view) clauses c (IsReserved (scope_at keys hosts sender) n)
+    → ((x : ℕ) → x < n → ArePermitted (view_in (scope_at keys hosts sender) view) clauses c (λ u. IsSo (scope_at keys hosts sender) u (Reservation x)))
     → ArePermitted (view_in (scope_at keys hosts sender) view) clauses c (λ u. Unit {0})
 each_reservation keys hosts sender c view clauses n asking all permitted u shown among ends =
     let seen = shown.reservation in
     let below = asking.fits.reservations seen.0 seen.1.0 in
-    permitted u shown (record { reservation = seen.0; below = omega arith; reserved = seen.1.1 }) ends
+    permitted seen.0 (omega arith) u shown seen.1.1 ends

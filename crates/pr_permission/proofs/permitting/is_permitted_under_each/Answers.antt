@@ -1,5 +1,7 @@
-use Rattle.pr_permission.proofs.Common.{sym, ◌∙◌, view_in, Reservation, IsSo, scope_at}
-use Rattle.pr_permission.proofs.lemmas.Permitting.Permissions.{refused_as, permitted_always}
+use Rattle.pr_permission.proofs.Common.{sym, ◌∙◌, arith, view_in, Reservation, IsSo, ArePermitted, scope_at}
+use Rattle.std.proofs.Common.{below_more}
+use Rattle.pr_permission.proofs.lemmas.Permitting.Permissions.{refused_as, permitted_always, not_shown}
+use Rattle.pr_permission.proofs.permitting.is_permitted_under_each.Goals.{then-has+else-not-is_permitted_at, else-has}
 use Rattle.pr_permission.proofs.permitting.is_permitted_under_each.Goals as goal
 
 pub returns-then-not-is_permitted_at-clause-refused : goal.returns-then-not-is_permitted_at-clause-refused
@@ -12,3 +14,14 @@ pub returns-then-is_one_unconditional-clause-permitted : goal.returns-then-is_on
 returns-then-is_one_unconditional-clause-permitted c is =
     let s = scope_at c.args.keys.now c.args.hosts c.args.sender in
     permitted_always (view_in s c.args.view.now) c.args.command c.args.clauses.now (sym c.is_one_unconditional.ensures ∙ c.if-is_one_unconditional.true)
+
+pub loop-reservation-preserved : goal.loop-reservation-preserved
+loop-reservation-preserved c =
+    let s = scope_at c.args.keys.now c.args.hosts c.args.sender in (
+      below_more (λ x. ArePermitted (view_in s c.args.view.now) c.args.clauses.now c.args.command (λ u. IsSo s u (Reservation x))) c.loop-reservation.reservation c.loop-reservation.invariant.0
+          (elim c.if-has.branch [
+            | then-has+else-not-is_permitted_at w ↦ w.is_permitted_at.ensures.permitted w.if-not-is_permitted_at.false
+            | else-has w ↦ not_shown s c.args.view.now c.args.clauses.now c.args.command c.loop-reservation.reservation (sym c.has.ensures ∙ w.if-has.false)
+          ]),
+      omega arith,
+    )

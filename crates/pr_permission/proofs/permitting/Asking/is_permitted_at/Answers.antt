@@ -1,4 +1,4 @@
-use Rattle.pr_permission.proofs.Common.{◌≡◌, subst, arith, view_in, Reservation, IsSo, ArePermitted, scope_at, HasFirst, HasBoth, MOST_REGISTRATIONS}
+use Rattle.pr_permission.proofs.Common.{◌≡◌, ◌<◌, sym, subst, arith, view_in, Reservation, IsSo, scope_at, HasBoth, MOST_REGISTRATIONS}
 use Rattle.pr_permission.proofs.lemmas.Permitting.Permissions.{asked_at, each_registration, refused_as}
 use Rattle.pr_permission.proofs.permitting.Asking.is_permitted_at.Goals as goal
 
@@ -10,7 +10,6 @@ returns-then-not-is_permitted_with-clause-refused c denied =
 
 pub returns-clause-permitted : goal.returns-clause-permitted
 returns-clause-permitted c is =
-    let s = scope_at c.args.self.now.keys.now c.args.self.now.place.hosts c.args.self.now.place.sender in
     let all : c.loop-registration.registration ≡ MOST_REGISTRATIONS = (let e = c.loop-registration.invariant.1 in omega arith) in
     each_registration c.args.self.now.keys.now c.args.self.now.command c.args.self.now.view.now c.args.self.now.place c.args.self.now.clauses.now (asked_at c.args.self.now)
-    (subst (λ n. ArePermitted (view_in s c.args.self.now.view.now) c.args.self.now.clauses.now c.args.self.now.command (HasFirst s c.args.self.now.place n)) all c.loop-registration.invariant.0)
+    (λ r small. c.loop-registration.invariant.0 r (subst (λ n. r < n) (sym all) small))
