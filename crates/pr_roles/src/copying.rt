@@ -61,21 +61,7 @@ fn same_name(name: &Word, other: &Word) -> bool
 fn same_clauses(clauses: &[Clause], others: &[Clause]) -> bool
     ensures { IsTrue result ↔ (clauses.now ≡ others.now) }
 {
-    if clauses.len() != others.len() {
-        return false;
-    }
-    for (i, clause) in clauses.iter().enumerate() {
-        if !same_clause(*clause, others[i]) {
-            return false;
-        }
-    }
-    true
-}
-
-fn same_clause(clause: Clause, other: Clause) -> bool
-    ensures { IsTrue result ↔ (clause ≡ other) }
-{
-    clause == other
+    clauses == others
 }
 
 fn same_alternatives(alternatives: &[Option<u64>], others: &[Option<u64>]) -> bool
@@ -87,21 +73,7 @@ fn same_alternatives(alternatives: &[Option<u64>], others: &[Option<u64>]) -> bo
 fn same_commands(commands: &[Command], others: &[Command]) -> bool
     ensures { IsTrue result ↔ (commands.now ≡ others.now) }
 {
-    if commands.len() != others.len() {
-        return false;
-    }
-    for (i, command) in commands.iter().enumerate() {
-        if !same_command(*command, others[i]) {
-            return false;
-        }
-    }
-    true
-}
-
-fn same_command(command: Command, other: Command) -> bool
-    ensures { IsTrue result ↔ (command ≡ other) }
-{
-    command == other
+    commands == others
 }
 
 fn copied_nexuses(alloc: Global, nexuses: &[Nexus]) -> Result<Vec<Nexus>, AllocError>

@@ -1,6 +1,7 @@
 -- Two clauses are equal where their actions and their conditions are.
-use Rattle.pr_roles.proofs.Common.{◌≡◌, true, refl, sym, ap, ◌∙◌, subst, false≢true, and_parts, Option, rules}
+use Rattle.pr_roles.proofs.Common.{◌≡◌, true, refl, ap, ◌∙◌, subst, false≢true, and_parts, Option, rules}
 use Rattle.std.specs.Option.{option_eq}
+use Rattle.std.proofs.lemmas.Slice.Eq.{slice_eq-Decides}
 use Rattle.pr_roles.specs.declared.role.Clause.{Clause}
 use Rattle.pr_roles.specs.declared.role.Action.{Action}
 use Rattle.pr_roles.specs.declared.role.Condition.{Condition}
@@ -8,7 +9,7 @@ use Rattle.pr_roles.specs.declared.role.Action.TheVariants.{Register, Unregister
 use Rattle.pr_roles.specs.contracts.role.ActionPartialEq.TheImpl as action
 use Rattle.pr_roles.specs.contracts.role.ConditionPartialEq.TheImpl as condition
 use Rattle.pr_roles.specs.contracts.role.ClausePartialEq.TheImpl as clause
-use Rattle.pr_roles.proofs.copying.same_clause.Goals as goal
+use Rattle.pr_roles.proofs.copying.same_clauses.Goals as goal
 
 same_action : (a b : Action) → action.eq-value.it a b ≡ true → a ≡ b
 same_action (Register k) (Register l) h = search rules
@@ -34,7 +35,4 @@ itself : (a : Clause) → clause.eq-value.it a a ≡ true
 itself a = search rules
 
 pub returns : goal.returns
-returns c = (
-  λ h. same c.args.clause c.args.other (sym c.eq.ensures ∙ h),
-  λ e. c.eq.ensures ∙ subst (λ b. clause.eq-value.it c.args.clause b ≡ true) e (itself c.args.clause),
-)
+returns c = slice_eq-Decides (λ a b. (same a b, λ e. subst (λ x. clause.eq-value.it a x ≡ true) e (itself a))) _ _ c.eq.result c.eq.ensures

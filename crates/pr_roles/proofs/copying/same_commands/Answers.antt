@@ -1,9 +1,10 @@
 -- Two commands are equal where they are of one kind and their fields are equal.
-use Rattle.pr_roles.proofs.Common.{◌≡◌, true, refl, sym, ◌∙◌, subst, false≢true, rules}
+use Rattle.pr_roles.proofs.Common.{◌≡◌, true, refl, subst, false≢true, rules}
+use Rattle.std.proofs.lemmas.Slice.Eq.{slice_eq-Decides}
 use Rattle.pr_cdb.specs.declared.command.Command.{Command}
 use Rattle.pr_cdb.specs.declared.command.Command.TheVariants.{TestUnitReady, RequestSense, Read, Write, ReadKeys, ReadReservation, ReportCapabilities, Register, RegisterIgnore, Reserve, Release, Clear, Preempt, PreemptAbort}
 use Rattle.pr_cdb.specs.contracts.command.CommandPartialEq.TheImpl as command
-use Rattle.pr_roles.proofs.copying.same_command.Goals as goal
+use Rattle.pr_roles.proofs.copying.same_commands.Goals as goal
 
 same : (a b : Command) → command.eq-value.it a b ≡ true → a ≡ b
 same TestUnitReady TestUnitReady h = refl
@@ -26,7 +27,4 @@ itself : (a : Command) → command.eq-value.it a a ≡ true
 itself a = search rules
 
 pub returns : goal.returns
-returns c = (
-  λ h. same c.args.command c.args.other (sym c.eq.ensures ∙ h),
-  λ e. c.eq.ensures ∙ subst (λ b. command.eq-value.it c.args.command b ≡ true) e (itself c.args.command),
-)
+returns c = slice_eq-Decides (λ a b. (same a b, λ e. subst (λ x. command.eq-value.it a x ≡ true) e (itself a))) _ _ c.eq.result c.eq.ensures
