@@ -26,7 +26,6 @@ use Rattle.pr_roles.specs.Permits.{is_permitted}
 use Rattle.pr_roles.specs.Scenarios.{Scenario, Task, Scripted, Planned, scenario_of}
 use Rattle.pr_roles.specs.Worlds.{World, Event, Run, Control, Going, Trapped, Free, control_of, standing_of, control_after, world_from}
 use Rattle.pr_audit.specs.declared.sender.Sender.{Sender}
-use Rattle.pr_audit.specs.declared.sender.Sender.TheVariants as sender
 use Rattle.pr_audit.specs.Auditors.{control_by}
 
 -- how it was answered, which its status tells

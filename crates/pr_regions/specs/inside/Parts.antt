@@ -1,5 +1,5 @@
 -- What the functions that make branches say of their parts.
-use Rattle.std.specs.Prelude.{◌≡◌, ℕ, ◌≤◌, Bool, true, false, not, ◌==◌, ◌&&◌, ◌||◌, if◌then◌else◌, List, Option, Some, None}
+use Rattle.std.specs.Prelude.{◌≡◌, ℕ, Bool, true, false, not, ◌==◌, ◌&&◌, ◌||◌, if◌then◌else◌, List, Option, Some, None}
 use Rattle.std.specs.List.{All}
 use Rattle.pr_cdb.specs.declared.command.Kind.{Kind}
 use Rattle.pr_cdb.specs.declared.command.Kind.TheVariants.{WriteExclusive, ExclusiveAccess, WriteExclusiveRegistrantsOnly, ExclusiveAccessRegistrantsOnly, WriteExclusiveAllRegistrants, ExclusiveAccessAllRegistrants}
@@ -8,12 +8,9 @@ use Rattle.pr_registry.specs.declared.held.Held.{Held}
 use Rattle.pr_registry.specs.declared.held.Held.TheVariants.{One, All as Everybody}
 use Rattle.pr_registry.specs.Registrations.{kind_of}
 use Rattle.pr_unit.specs.UnitStates.{UnitState}
-use Rattle.pr_roles.specs.declared.limits.TheConstants.{MOST_KEYS}
 use Rattle.pr_sets.specs.declared.bit_set.BitSet.{BitSet}
-use Rattle.pr_sets.specs.BitSets.{has}
 use Rattle.pr_views.specs.Possibilities.{Scope}
 use Rattle.pr_regions.specs.declared.region.Region.{Region}
-use Rattle.pr_regions.specs.declared.region.Transition.{Transition}
 use Rattle.pr_regions.specs.declared.region.Ending.{Ending}
 use Rattle.pr_regions.specs.declared.region.Branch.{Branch}
 use Rattle.pr_regions.specs.declared.purpose.Purpose.{Purpose}
@@ -23,7 +20,7 @@ use Rattle.pr_regions.specs.declared.purpose.Standing.TheVariants.{Unregistered,
 use Rattle.pr_regions.specs.declared.initiator.Initiator.{Initiator}
 use Rattle.pr_regions.specs.declared.initiator.Preemption.{Preemption}
 use Rattle.pr_regions.specs.Conditions.{is_holder_as}
-use Rattle.pr_regions.specs.Transitions.{Does, HasThose, never}
+use Rattle.pr_regions.specs.Transitions.{HasThose}
 use Rattle.pr_regions.specs.Regions.{Meets, IsInRegion, Ends, AreBranches, IsProper, HasRoom}
 
 -- ---- words

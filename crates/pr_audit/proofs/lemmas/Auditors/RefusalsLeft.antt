@@ -1,5 +1,5 @@
 -- How many refusals are left to a nexus, by its parts.
-use Rattle.pr_audit.proofs.Common.{◌≡◌, ℕ, ◌<◌, List, length, nat_lt, sym, ap, option_map_or, may_come, nexus, scenario_of, Item, Parts}
+use Rattle.pr_audit.proofs.Common.{◌≡◌, ℕ, ◌<◌, List, length, nat_lt, sym, ap, option_map_or, may_come, scenario_of, Item, Parts}
 use Rattle.std.proofs.Common.{slice_index_or}
 use Rattle.pr_roles.specs.declared.how.How.TheVariants as how
 use Rattle.pr_roles.specs.declared.parts.Nexus.{Nexus as NexusPart}

@@ -1,4 +1,4 @@
-use Rattle.pr_regions.proofs.Common.{true, false, ◌&&◌, None, sym, ap, subst, ◌∙◌, is_kind, kind_of, number_of, holds, never, Does}
+use Rattle.pr_regions.proofs.Common.{◌&&◌, None, sym, ap, subst, ◌∙◌, is_kind, kind_of, number_of, holds, never, Does}
 use Rattle.std.proofs.lemmas.Bool.{and_right}
 use Rattle.pr_regions.proofs.lemmas.Parts.Services.{reserve_new, reserve_same, reserve_conflict}
 use Rattle.pr_regions.proofs.endings.reserve_ending.Goals as goal
