@@ -2,7 +2,7 @@
 -- The bytes of each command, with zero in every field that the command does not name (SPC-4, 'TEST UNIT
 -- READY', 'REQUEST SENSE', 'PERSISTENT RESERVE IN' and 'PERSISTENT RESERVE OUT command'; SBC-3, 'READ
 -- (10)' and 'WRITE (10) command').
-use Rattle.std.specs.Prelude.{ℕ, List, [], ◌∷◌, ◌++◌, Option}
+use Rattle.std.specs.Prelude.{ℕ, List, [], ◌∷◌, ◌++◌, slice_index, Option}
 use Rattle.std.specs.Option.{option_map_or}
 use Rattle.std.specs.Int.{w16, w32, w64, to_be_bytes}
 use Rattle.pr_cdb.specs.declared.codes.TheConstants.{TEST_UNIT_READY, REQUEST_SENSE, READ_10, WRITE_10, PERSISTENT_RESERVE_IN, PERSISTENT_RESERVE_OUT, READ_KEYS, READ_RESERVATION, REPORT_CAPABILITIES, REGISTER, RESERVE, RELEASE, CLEAR, PREEMPT, PREEMPT_AND_ABORT, REGISTER_AND_IGNORE_EXISTING_KEY, FIXED_SENSE_LENGTH, PARAMETER_LIST_LENGTH}
@@ -40,6 +40,26 @@ reserve_out action kind rk sark =
 -- scope and type: the scope is the logical unit's, which is 0. No type is written as 0.
 abbrev pub kind_byte : Option Kind → ℕ
 kind_byte kind = option_map_or code_of kind 0
+
+-- how the standards tell commands apart: by the operation code, and the service action where there is one
+abbrev pub command_codes : Command → List ℕ
+command_codes TestUnitReady = TEST_UNIT_READY ∷ []
+command_codes RequestSense = REQUEST_SENSE ∷ []
+command_codes (Read lba blocks) = READ_10 ∷ []
+command_codes (Write lba blocks) = WRITE_10 ∷ []
+command_codes (ReadKeys alloc) = PERSISTENT_RESERVE_IN ∷ READ_KEYS ∷ []
+command_codes (ReadReservation alloc) = PERSISTENT_RESERVE_IN ∷ READ_RESERVATION ∷ []
+command_codes (ReportCapabilities alloc) = PERSISTENT_RESERVE_IN ∷ REPORT_CAPABILITIES ∷ []
+command_codes (Register rk sark) = PERSISTENT_RESERVE_OUT ∷ REGISTER ∷ []
+command_codes (RegisterIgnore sark) = PERSISTENT_RESERVE_OUT ∷ REGISTER_AND_IGNORE_EXISTING_KEY ∷ []
+command_codes (Reserve rk kind) = PERSISTENT_RESERVE_OUT ∷ RESERVE ∷ []
+command_codes (Release rk kind) = PERSISTENT_RESERVE_OUT ∷ RELEASE ∷ []
+command_codes (Clear rk) = PERSISTENT_RESERVE_OUT ∷ CLEAR ∷ []
+command_codes (Preempt rk sark kind) = PERSISTENT_RESERVE_OUT ∷ PREEMPT ∷ []
+command_codes (PreemptAbort rk sark kind) = PERSISTENT_RESERVE_OUT ∷ PREEMPT_AND_ABORT ∷ []
+
+abbrev pub operation_code : Command → ℕ
+operation_code c = slice_index (command_codes c) 0
 
 unfoldable pub spelling : Command → Wire
 spelling TestUnitReady = six TEST_UNIT_READY 0

@@ -1,14 +1,15 @@
 -- Agrees with docs/MODEL.md, 'Roles'.
 -- Which commands a role permits.
-use Rattle.std.specs.Prelude.{ℕ, Bool, true, false, ◌&&◌, ◌||◌, List, [], ◌∷◌, bytes_eq, Option, Some, None, is_some, option_map}
+use Rattle.std.specs.Prelude.{ℕ, Bool, true, false, ◌==◌, ◌&&◌, ◌||◌, List, [], ◌∷◌, bytes_eq, Option, Some, None, is_some, option_map}
 use Rattle.std.specs.List.{list_any}
 use Rattle.std.specs.Option.{option_map_or}
-use Rattle.pr_cdb.specs.declared.codes.TheConstants.{READ_10, WRITE_10, REGISTER, RESERVE, RELEASE, CLEAR, PREEMPT}
+use Rattle.pr_cdb.specs.declared.codes.TheConstants.{TEST_UNIT_READY, REQUEST_SENSE, PERSISTENT_RESERVE_IN, READ_10, WRITE_10, REGISTER, RESERVE, RELEASE, CLEAR, PREEMPT}
 use Rattle.pr_cdb.specs.declared.command.Command.{Command}
 use Rattle.pr_cdb.specs.declared.command.Command.TheVariants as command
 use Rattle.pr_cdb.specs.declared.wire.Request.{Request}
 use Rattle.pr_cdb.specs.declared.wire.Request.TheVariants.{Plain, Faulty}
 use Rattle.pr_cdb.specs.Kinds.{code_of}
+use Rattle.pr_cdb.specs.Spelling.{operation_code}
 use Rattle.pr_registry.specs.Registrations.{State, is_registered, is_holder}
 use Rattle.pr_roles.specs.declared.role.Action.{Action}
 use Rattle.pr_roles.specs.declared.role.Action.TheVariants as action
@@ -61,20 +62,8 @@ clause_permits clause u h c = names clause.action c && holds clause.condition u 
 
 -- the commands that only look
 abbrev pub is_always_permitted : Command → Bool
-is_always_permitted command.TestUnitReady = true
-is_always_permitted command.RequestSense = true
-is_always_permitted (command.Read lba blocks) = false
-is_always_permitted (command.Write lba blocks) = false
-is_always_permitted (command.ReadKeys alloc) = true
-is_always_permitted (command.ReadReservation alloc) = true
-is_always_permitted (command.ReportCapabilities alloc) = true
-is_always_permitted (command.Register rk sark) = false
-is_always_permitted (command.RegisterIgnore sark) = false
-is_always_permitted (command.Reserve rk kind) = false
-is_always_permitted (command.Release rk kind) = false
-is_always_permitted (command.Clear rk) = false
-is_always_permitted (command.Preempt rk sark kind) = false
-is_always_permitted (command.PreemptAbort rk sark kind) = false
+is_always_permitted c =
+    let code = operation_code c in code == TEST_UNIT_READY || (code == REQUEST_SENSE || code == PERSISTENT_RESERVE_IN)
 
 -- some clause permits the command of h, in the state just before it
 abbrev pub command_permitted : List Clause → State → ℕ → Command → Bool

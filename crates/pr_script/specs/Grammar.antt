@@ -1,9 +1,11 @@
 -- Agrees with docs/MODEL.md, 'Which scripts may be written'; docs/FORMATS.md, 'Limits'.
 -- Which scripts may be written: the grammar of statements, and its limits.
-use Rattle.std.specs.Prelude.{ℕ, Bool, true, false, ◌+◌, ◌==◌, ◌&&◌, ◌||◌, nat_lt, nat_le, List, [], ◌∷◌, ◌++◌, is_some}
+use Rattle.std.specs.Prelude.{ℕ, Bool, true, false, ◌+◌, ◌==◌, ◌&&◌, ◌||◌, nat_lt, nat_le, List, [], ◌∷◌, ◌++◌, bytes_eq, is_some}
 use Rattle.std.specs.List.{list_any}
+use Rattle.pr_cdb.specs.declared.codes.TheConstants.{PERSISTENT_RESERVE_IN, READ_KEYS, READ_RESERVATION}
 use Rattle.pr_cdb.specs.declared.command.Command.{Command}
 use Rattle.pr_cdb.specs.declared.command.Command.TheVariants as command
+use Rattle.pr_cdb.specs.Spelling.{command_codes}
 use Rattle.pr_script.specs.declared.grammar.TheConstants.{WRITTEN_LENGTH}
 use Rattle.pr_script.specs.declared.script.Test.{Test}
 use Rattle.pr_script.specs.declared.script.Test.TheVariants as test
@@ -40,36 +42,10 @@ is_written keys (command.PreemptAbort rk sark kind) = is_written_key keys rk && 
 -- ---- statements
 
 abbrev pub is_read_keys : Command → Bool
-is_read_keys command.TestUnitReady = false
-is_read_keys command.RequestSense = false
-is_read_keys (command.Read lba blocks) = false
-is_read_keys (command.Write lba blocks) = false
-is_read_keys (command.ReadKeys alloc) = true
-is_read_keys (command.ReadReservation alloc) = false
-is_read_keys (command.ReportCapabilities alloc) = false
-is_read_keys (command.Register rk sark) = false
-is_read_keys (command.RegisterIgnore sark) = false
-is_read_keys (command.Reserve rk kind) = false
-is_read_keys (command.Release rk kind) = false
-is_read_keys (command.Clear rk) = false
-is_read_keys (command.Preempt rk sark kind) = false
-is_read_keys (command.PreemptAbort rk sark kind) = false
+is_read_keys c = bytes_eq (command_codes c) (PERSISTENT_RESERVE_IN ∷ READ_KEYS ∷ [])
 
 abbrev pub is_read_reservation : Command → Bool
-is_read_reservation command.TestUnitReady = false
-is_read_reservation command.RequestSense = false
-is_read_reservation (command.Read lba blocks) = false
-is_read_reservation (command.Write lba blocks) = false
-is_read_reservation (command.ReadKeys alloc) = false
-is_read_reservation (command.ReadReservation alloc) = true
-is_read_reservation (command.ReportCapabilities alloc) = false
-is_read_reservation (command.Register rk sark) = false
-is_read_reservation (command.RegisterIgnore sark) = false
-is_read_reservation (command.Reserve rk kind) = false
-is_read_reservation (command.Release rk kind) = false
-is_read_reservation (command.Clear rk) = false
-is_read_reservation (command.Preempt rk sark kind) = false
-is_read_reservation (command.PreemptAbort rk sark kind) = false
+is_read_reservation c = bytes_eq (command_codes c) (PERSISTENT_RESERVE_IN ∷ READ_RESERVATION ∷ [])
 
 -- an arm with this test stands under the command: one that looks at data, only under the command that
 -- returns it

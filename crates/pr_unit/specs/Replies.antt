@@ -1,8 +1,8 @@
 -- Agrees with SAM-5, 'Status'; docs/FORMATS.md, 'Reply bytes'.
 -- What the logical unit answers (SAM-5, 'Status').
-use Rattle.std.specs.Prelude.{ℕ, Bool, true, false, if◌then◌else◌, List, [], Option, Some, None, unwrap_or}
+use Rattle.std.specs.Prelude.{ℕ, Bool, false, ◌==◌, if◌then◌else◌, List, [], Option, Some, None, unwrap_or}
 use Rattle.std.specs.FinMap as map
-use Rattle.pr_cdb.specs.declared.codes.TheConstants.{NO_SENSE, NO_ADDITIONAL_SENSE_INFORMATION}
+use Rattle.pr_cdb.specs.declared.codes.TheConstants.{REQUEST_SENSE, NO_SENSE, NO_ADDITIONAL_SENSE_INFORMATION}
 use Rattle.pr_cdb.specs.declared.command.Kind.{Kind}
 use Rattle.pr_cdb.specs.declared.command.Command.{Command}
 use Rattle.pr_cdb.specs.declared.command.Command.TheVariants.{TestUnitReady, RequestSense, Read, Write, ReadKeys, ReadReservation, ReportCapabilities, Register, RegisterIgnore, Reserve, Release, Clear, Preempt, PreemptAbort}
@@ -12,6 +12,7 @@ use Rattle.pr_cdb.specs.declared.reply.Status.TheVariants.{Good, CheckCondition,
 use Rattle.pr_cdb.specs.declared.reply.Reply.{Reply}
 use Rattle.pr_cdb.specs.declared.wire.Request.{Request}
 use Rattle.pr_cdb.specs.declared.wire.Request.TheVariants.{Plain, Faulty}
+use Rattle.pr_cdb.specs.Spelling.{operation_code}
 use Rattle.pr_cdb.specs.Statuses.{is_good_status}
 use Rattle.pr_cdb.specs.ReplyData.{sense_bytes, keys_bytes, reservation_bytes, capabilities_bytes, cut}
 use Rattle.pr_registry.specs.declared.held.Held.{Held}
@@ -44,20 +45,7 @@ is_good r = is_good_status r.status
 
 -- REQUEST SENSE reports as data, and ends GOOD
 abbrev pub is_request_sense : Request → Bool
-is_request_sense (Plain TestUnitReady) = false
-is_request_sense (Plain RequestSense) = true
-is_request_sense (Plain (Read lba blocks)) = false
-is_request_sense (Plain (Write lba blocks)) = false
-is_request_sense (Plain (ReadKeys alloc)) = false
-is_request_sense (Plain (ReadReservation alloc)) = false
-is_request_sense (Plain (ReportCapabilities alloc)) = false
-is_request_sense (Plain (Register rk sark)) = false
-is_request_sense (Plain (RegisterIgnore sark)) = false
-is_request_sense (Plain (Reserve rk kind)) = false
-is_request_sense (Plain (Release rk kind)) = false
-is_request_sense (Plain (Clear rk)) = false
-is_request_sense (Plain (Preempt rk sark kind)) = false
-is_request_sense (Plain (PreemptAbort rk sark kind)) = false
+is_request_sense (Plain c) = operation_code c == REQUEST_SENSE
 is_request_sense (Faulty sense) = false
 
 -- the reply that reports this attention
