@@ -3,45 +3,20 @@
 use pr_cdb::Command;
 use pr_roles::{Action, Nexus, Task};
 use pr_script::Test;
+use pr_unit::{Admission, Demand, admission_of, demand_of};
 
 /// Whether the command has this key in one of its fields.
 pub(crate) fn names_key(command: &Command, key: u64) -> bool {
-    match *command {
-        Command::Register { rk, sark }
-        | Command::Preempt { rk, sark, .. }
-        | Command::PreemptAbort { rk, sark, .. } => rk == key || sark == key,
-        Command::RegisterIgnore { sark } => sark == key,
-        Command::Reserve { rk, .. } | Command::Release { rk, .. } | Command::Clear { rk } => {
-            rk == key
-        }
-        Command::TestUnitReady
-        | Command::RequestSense
-        | Command::Read { .. }
-        | Command::Write { .. }
-        | Command::ReadKeys { .. }
-        | Command::ReadReservation { .. }
-        | Command::ReportCapabilities { .. } => false,
-    }
+    let asks = match demand_of(*command) {
+        Demand::Register(named) | Demand::Preempt(named, _) => named == key,
+        _ => false,
+    };
+    asks || admission_of(*command).key() == Some(key)
 }
 
 /// Whether the command needs a reservation key and has none: 0 is nobody's, so it always conflicts.
 pub(crate) fn is_keyless(command: &Command) -> bool {
-    match *command {
-        Command::Reserve { rk, .. }
-        | Command::Release { rk, .. }
-        | Command::Clear { rk }
-        | Command::Preempt { rk, .. }
-        | Command::PreemptAbort { rk, .. } => rk == 0,
-        Command::Register { .. }
-        | Command::RegisterIgnore { .. }
-        | Command::TestUnitReady
-        | Command::RequestSense
-        | Command::Read { .. }
-        | Command::Write { .. }
-        | Command::ReadKeys { .. }
-        | Command::ReadReservation { .. }
-        | Command::ReportCapabilities { .. } => false,
-    }
+    admission_of(*command) == Admission::Own(0)
 }
 
 /// Whether the arm waits for this key.

@@ -7,7 +7,7 @@ use pr_attention::Attention;
 use pr_cdb::{Command, Reply, Request, Status, Wire, decode, encode};
 use pr_registry::Registry;
 use pr_roles::Entry;
-use pr_unit::Unit;
+use pr_unit::{Unit, admission_of};
 use std::alloc::{AllocError, Global};
 
 /// The sense key of an attention.
@@ -158,22 +158,7 @@ fn key_named(wire: &Wire) -> Option<u64> {
     let Ok(Request::Plain(command)) = decode(&wire.cdb, &wire.params) else {
         return None;
     };
-    match command {
-        Command::Register { rk, .. }
-        | Command::Reserve { rk, .. }
-        | Command::Release { rk, .. }
-        | Command::Clear { rk }
-        | Command::Preempt { rk, .. }
-        | Command::PreemptAbort { rk, .. } => Some(rk),
-        Command::RegisterIgnore { .. }
-        | Command::TestUnitReady
-        | Command::RequestSense
-        | Command::Read { .. }
-        | Command::Write { .. }
-        | Command::ReadKeys { .. }
-        | Command::ReadReservation { .. }
-        | Command::ReportCapabilities { .. } => None,
-    }
+    admission_of(command).key()
 }
 
 // Whether the unit, which executes the command, answers it with GOOD. Bytes that are no request change nothing.
