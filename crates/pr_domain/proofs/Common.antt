@@ -20,8 +20,8 @@ pub use Rattle.pr_attention.specs.declared.attention.Attention.TheVariants.{Powe
 pub use Rattle.pr_registry.specs.Registrations.{State, key_of}
 pub use Rattle.pr_registry.specs.declared.held.Held.{Held}
 pub use Rattle.pr_registry.specs.declared.held.Held.TheVariants.{One}
-pub use Rattle.pr_unit.specs.Conflicts.{command_conflicts}
-pub use Rattle.pr_unit.specs.Faults.{command_fault}
+pub use Rattle.pr_unit.specs.Conduct.{command_conflicts, command_fault}
+pub use Rattle.pr_unit.specs.Demands.{is_refused}
 pub use Rattle.pr_unit.specs.Replies.{good, check, conflict, report, data_of}
 pub use Rattle.pr_unit.specs.Steps.{Step}
 pub use Rattle.pr_unit.specs.UnitStates.{UnitState, is_pending, is_any_pending, IsWellFormed, effect, after_report}
@@ -46,7 +46,7 @@ pub use Rattle.pr_views.specs.declared.view.ViewOf.{ViewOf}
 pub use Rattle.pr_views.proofs.lemmas.Possibilities.Numbers.{reservation_of, one_registration}
 pub use Rattle.pr_views.proofs.lemmas.Rooms.Places.{holds_at-get_or}
 pub use Rattle.pr_regions.specs.Gathering.{IsPlace, IsUniform, IsAt}
-pub use Rattle.pr_regions.specs.Purposes.{purpose_of, is_refused}
+pub use Rattle.pr_regions.specs.Purposes.{purpose_of}
 pub use Rattle.pr_regions.specs.Readings.{first_test}
 pub use Rattle.pr_regions.specs.Regions.{standing_of, AreBranches}
 pub use Rattle.pr_regions.specs.declared.place.Place.{Place}

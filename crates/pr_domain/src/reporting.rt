@@ -10,7 +10,7 @@ ghost use Rattle.pr_registry.specs.Registrations.{State};
 ghost use Rattle.pr_script.specs.declared.limits.TheConstants.{MOST_ARMS};
 ghost use Rattle.pr_script.specs.declared.script.Test.{Test};
 ghost use Rattle.pr_script.specs.Grammar.{is_written, test_fits};
-ghost use Rattle.pr_unit.specs.Faults.{command_fault};
+ghost use Rattle.pr_unit.specs.Conduct.{command_fault};
 ghost use Rattle.pr_unit.specs.Replies.{report};
 ghost use Rattle.pr_views.specs.Portions.{view_in};
 ghost use Rattle.pr_domain.specs.Landings.{IsClass};

@@ -9,7 +9,8 @@ ghost use Rattle.pr_sets.specs.Numbers.{most};
 ghost use Rattle.pr_sets.specs.Wides.{has_wide};
 ghost use Rattle.pr_views.specs.declared.view.TheConstants.{MOST_REGISTRATIONS};
 ghost use Rattle.pr_roles.specs.Keys.{key_at};
-ghost use Rattle.pr_regions.specs.Purposes.{HasNumber, is_refused};
+ghost use Rattle.pr_regions.specs.Purposes.{HasNumber};
+ghost use Rattle.pr_unit.specs.Demands.{is_refused};
 ghost use Rattle.pr_regions.specs.Regions.{HasRoom, standing_of};
 ghost use Rattle.pr_domain.specs.inside.Tallies.{AddsBranch, AddsBranches, AddsAccepted, AddsRefused, AddsReading, AddsReadings, AreTallied, way_of};
 ghost use Rattle.pr_domain.specs.inside.TestedCommands.{AddsAlike, AddsPlace, AddsReservation, AreAlike, IsTallyOf};
@@ -22,12 +23,13 @@ use pr_cdb::Command;
 use pr_cdb::codes::MOST_NEXUSES;
 use pr_regions::{
     Branch, Ending, Place, Purpose, Reading, Region, Standing, branches, change_to_reservation,
-    is_refused, purpose_of, readings, registrations_after, standing_of,
+    purpose_of, readings, registrations_after, standing_of,
 };
 use pr_roles::key_at;
 use pr_script::Class;
 use pr_script::limits::MOST_ARMS;
 use pr_sets::{BitSet, Wide};
+use pr_unit::is_refused;
 use pr_views::{MOST_REGISTRATIONS, Possibilities};
 
 /// The arm that takes the data of GOOD, counted from 1, or 0 where none does.

@@ -36,11 +36,10 @@ pub use Rattle.pr_views.proofs.lemmas.Possibilities.Numbers.{one_registration, o
 pub use Rattle.pr_views.proofs.lemmas.Views.Values.{words_fit}
 pub use Rattle.pr_regions.specs.Gathering.{IsAt}
 pub use Rattle.pr_regions.specs.Images.{IsImage}
-pub use Rattle.pr_regions.specs.Purposes.{number_in, purpose_of_preempt, purpose_of}
+pub use Rattle.pr_regions.specs.Purposes.{number_in, purpose_of, Purpose}
 pub use Rattle.pr_regions.specs.Regions.{mark, Changes}
 pub use Rattle.pr_regions.specs.declared.place.Place.{Place}
-pub use Rattle.pr_regions.specs.declared.purpose.Purpose.{Purpose}
-pub use Rattle.pr_regions.specs.declared.purpose.Purpose.TheVariants.{Register, Unregister, Reserve, Release, Clear, PreemptAll, Preempt}
+pub use Rattle.pr_unit.specs.declared.demand.Demand.TheVariants.{Register, Unregister, Reserve, Release, Clear, PreemptAll, Preempt}
 pub use Rattle.pr_regions.specs.declared.region.Branch.{Branch}
 pub use Rattle.pr_regions.specs.declared.region.Transition.{Transition}
 pub use Rattle.pr_regions.specs.inside.Adding.{Allows, Adds}
@@ -51,7 +50,7 @@ pub use Rattle.pr_regions.proofs.lemmas.Showing.AlikeViews.{IsSame, shows_within
 pub use Rattle.pr_interference.specs.Interference.{IsDone, IsLeft, IsInterference}
 pub use Rattle.pr_interference.specs.declared.onlooker.Onlooker.{Onlooker}
 pub use Rattle.pr_interference.specs.declared.reach.Reach.{Reach}
-pub use Rattle.pr_interference.specs.inside.Clauses.{purpose_for, IsClause, StandingLeads, PlaceLeads, FirstLeads}
+pub use Rattle.pr_interference.specs.inside.Clauses.{purpose_of_preempt, purpose_for, IsClause, StandingLeads, PlaceLeads, FirstLeads}
 pub use Rattle.pr_interference.specs.inside.Closing.{IsRound, IsWidened, scope_for, view_for}
 pub use Rattle.pr_interference.specs.inside.Interfering.{IsWatched, IsOnlooking, IsLedBy, IsLeftBy, ClauseLeaves}
 pub use Rattle.pr_interference.specs.inside.Marks.{first, AreMarked}

@@ -1,14 +1,11 @@
 //! What the clauses of a role ask for.
 
-ghost use Rattle.std.specs.Prelude.{◌≡◌, ◌≤◌, ◌==◌, ℕ, false, IfSome};
-ghost use Rattle.std.specs.Option.{option_map_or};
-ghost use Rattle.pr_roles.specs.declared.limits.TheConstants.{MOST_KEYS};
+ghost use Rattle.std.specs.Prelude.{◌≡◌};
 ghost use Rattle.pr_regions.specs.Purposes.{HasNumber};
-ghost use Rattle.pr_regions.specs.Regions.{names};
 ghost use Rattle.pr_interference.specs.inside.Clauses.{purpose_for, may_send as may_send_as, is_registered_as, refuses_strangers, AreSenders};
 
 use crate::onlooker::Onlooker;
-use pr_regions::{Place, Purpose, Standing, every_key, number_in};
+use pr_regions::{Place, Purpose, Standing, every_key, named, number_in};
 use pr_registry::Held;
 use pr_roles::{Action, Condition};
 use pr_sets::BitSet;
@@ -79,30 +76,11 @@ pub(crate) fn senders(purpose: Purpose, standing: Standing) -> BitSet
     requires { HasNumber purpose }
     ensures { AreSenders purpose standing result }
 {
-    match (standing, key_named(purpose)) {
+    match (standing, named(purpose)) {
         (Standing::Unregistered, _) => BitSet::only(0),
         (Standing::Named, Some(key)) => BitSet::only(key),
         (Standing::Named, None) => BitSet::none(),
         (Standing::Other, Some(key)) => every_key().without(key),
         (Standing::Other, None) => every_key(),
-    }
-}
-
-// The key that a command for this names, by its number.
-fn key_named(purpose: Purpose) -> Option<u8>
-    requires { HasNumber purpose }
-    ensures number { (r : ℕ) → names purpose r ≡ option_map_or (λ j. r == j) result false }
-    ensures few { IfSome result (λ j. (1 ≤ j) × (j ≤ MOST_KEYS)) }
-{
-    match purpose {
-        Purpose::Register(key) | Purpose::Preempt(key, _) => Some(key),
-        Purpose::Look
-        | Purpose::Read(_)
-        | Purpose::Write(_)
-        | Purpose::Unregister
-        | Purpose::Reserve(_)
-        | Purpose::Release(_)
-        | Purpose::Clear
-        | Purpose::PreemptAll(_) => None,
     }
 }

@@ -14,7 +14,8 @@ pub use Rattle.pr_cdb.specs.declared.reply.Sense.{Sense}
 pub use Rattle.pr_cdb.specs.declared.wire.Request.TheVariants.{Plain}
 pub use Rattle.pr_attention.specs.Attentions.{power_on}
 pub use Rattle.pr_registry.specs.Registrations.{State, key_of}
-pub use Rattle.pr_unit.specs.Conflicts.{command_conflicts}
+pub use Rattle.pr_unit.specs.Conduct.{command_conflicts}
+pub use Rattle.pr_unit.specs.Demands.{is_refused}
 pub use Rattle.pr_unit.specs.Steps.{Step}
 pub use Rattle.pr_unit.specs.UnitStates.{UnitState, is_pending, is_any_pending, IsWellFormed}
 pub use Rattle.pr_script.specs.Grammar.{is_written_key, is_written}
@@ -27,7 +28,7 @@ pub use Rattle.pr_views.specs.declared.possibilities.Possibilities.{Possibilitie
 pub use Rattle.pr_views.proofs.lemmas.Possibilities.Numbers.{one_registration}
 pub use Rattle.pr_views.proofs.lemmas.Rooms.Places.{holds_at-get_or}
 pub use Rattle.pr_regions.specs.Gathering.{IsPlace, IsUniform, IsAt}
-pub use Rattle.pr_regions.specs.Purposes.{purpose_of, is_refused}
+pub use Rattle.pr_regions.specs.Purposes.{purpose_of}
 pub use Rattle.pr_regions.specs.Regions.{standing_of, AreBranches}
 pub use Rattle.pr_regions.specs.declared.place.Place.{Place}
 pub use Rattle.pr_regions.specs.declared.region.Branch.{Branch}

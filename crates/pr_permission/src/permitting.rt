@@ -14,9 +14,10 @@ ghost use Rattle.pr_permission.specs.Permission.{IsPermittedIn, IsRefusedIn};
 ghost use Rattle.pr_permission.specs.inside.Permitting.{IsAsking, PermitsAll, RefusesOne, TellsReached, TellsOneReached, permits_at, permits_always};
 
 use pr_cdb::Command;
-use pr_regions::{Branch, Ending, Place, branches, is_refused, purpose_of, standing_of};
+use pr_regions::{Branch, Ending, Place, branches, purpose_of, standing_of};
 use pr_roles::{Clause, Role, is_always_permitted, key_at, names};
 use pr_sets::{BitSet, ViewSet};
+use pr_unit::is_refused;
 use pr_views::{MOST_REGISTRATIONS, Possibilities, ViewOf, reservation_at};
 
 /// Whether the role permits this command of the host in each state that the host's view shows and in which the

@@ -18,18 +18,17 @@ pub use Rattle.pr_registry.specs.Registrations.{State, is_registered, kind_of, k
 pub use Rattle.pr_registry.specs.declared.held.Held.{Held}
 pub use Rattle.pr_registry.specs.declared.held.Held.TheVariants.{One, All}
 pub use Rattle.pr_registry.proofs.lemmas.Sets.{contains-nobody, get-without}
-pub use Rattle.pr_unit.specs.Faults.{illegal}
+pub use Rattle.pr_unit.specs.Conduct.{illegal}
 pub use Rattle.pr_unit.specs.UnitStates.{UnitState}
 pub use Rattle.pr_script.specs.Takes.{matches}
 pub use Rattle.pr_script.specs.declared.grammar.TheConstants.{WRITTEN_LENGTH}
 pub use Rattle.pr_views.specs.Portions.{HasSomebody}
 pub use Rattle.pr_roles.specs.Keys.{key_at}
 pub use Rattle.pr_views.specs.Possibilities.{Scope, number_of, IsScope, Registration, IsSo}
-pub use Rattle.pr_regions.specs.Purposes.{HasNumber, number_in}
+pub use Rattle.pr_regions.specs.Purposes.{HasNumber, number_in, Purpose}
 pub use Rattle.pr_regions.specs.Readings.{IsProperReading}
 pub use Rattle.pr_regions.specs.Regions.{Meets, HasRoom, IsInRegion, IsCovered, Ends}
-pub use Rattle.pr_regions.specs.declared.purpose.Purpose.{Purpose}
-pub use Rattle.pr_regions.specs.declared.purpose.Purpose.TheVariants.{Read, Write, Look, Register, Unregister, Reserve, Release, Clear, PreemptAll, Preempt}
+pub use Rattle.pr_unit.specs.declared.demand.Demand.TheVariants.{Read, Write, Look, Register, Unregister, Reserve, Release, Clear, PreemptAll, Preempt}
 pub use Rattle.pr_regions.specs.declared.purpose.Standing.{Standing}
 pub use Rattle.pr_regions.specs.declared.region.Branch.{Branch}
 pub use Rattle.pr_regions.specs.declared.region.Transition.{Transition}

@@ -2,13 +2,14 @@
 -- How a command ends, region by region of the states with one reservation and one standing of the sender.
 use Rattle.std.specs.Prelude.{◌≡◌, ◌≢◌, ℕ, zero, suc, ◌+◌, ◌≤◌, ◌<◌, Bool, true, false, ◌==◌, if◌then◌else◌, List, Option, Some, None, option_map, unwrap_or, bit_or}
 use Rattle.std.specs.List.{Contains}
+use Rattle.std.specs.Option.{option_map_or}
 use Rattle.pr_cdb.specs.declared.command.Command.{Command}
 use Rattle.pr_registry.specs.declared.held.Held.{Held}
 use Rattle.pr_registry.specs.declared.held.Held.TheVariants.{One, All}
 use Rattle.pr_registry.specs.Registrations.{key_of}
 use Rattle.pr_unit.specs.UnitStates.{UnitState, IsWellFormed, effect}
-use Rattle.pr_unit.specs.Conflicts.{command_conflicts}
-use Rattle.pr_unit.specs.Faults.{command_fault}
+use Rattle.pr_unit.specs.Conduct.{command_conflicts, command_fault}
+use Rattle.pr_unit.specs.Demands.{is_refused}
 use Rattle.pr_roles.specs.declared.limits.TheConstants.{MOST_KEYS}
 use Rattle.pr_sets.specs.declared.bit_set.BitSet.{BitSet}
 use Rattle.pr_sets.specs.BitSets.{has}
@@ -20,26 +21,15 @@ use Rattle.pr_regions.specs.declared.region.Transition.{Transition}
 use Rattle.pr_regions.specs.declared.region.Ending.{Ending}
 use Rattle.pr_regions.specs.declared.region.Ending.TheVariants.{Conflict, Fault, Good}
 use Rattle.pr_regions.specs.declared.region.Branch.{Branch}
-use Rattle.pr_regions.specs.declared.purpose.Purpose.{Purpose}
-use Rattle.pr_regions.specs.declared.purpose.Purpose.TheVariants.{Look, Read, Write, Register, Unregister, Reserve, Release, Clear, PreemptAll, Preempt}
+use Rattle.pr_regions.specs.Purposes.{Purpose, named, purpose_of}
 use Rattle.pr_regions.specs.declared.purpose.Standing.{Standing}
 use Rattle.pr_regions.specs.declared.purpose.Standing.TheVariants.{Unregistered, Named, Other}
-use Rattle.pr_regions.specs.Purposes.{is_refused, purpose_of}
 
 -- ---- what is known beforehand
 
 -- the purpose names the key of this number
 abbrev pub names : Purpose → ℕ → Bool
-names Look r = false
-names (Read ranges) r = false
-names (Write ranges) r = false
-names (Register j) r = r == j
-names Unregister r = false
-names (Reserve kind) r = false
-names (Release kind) r = false
-names Clear r = false
-names (PreemptAll kind) r = false
-names (Preempt j kind) r = r == j
+names p r = option_map_or (λ j. r == j) (named p) false
 
 -- how a sender with this registration stands to a purpose
 abbrev pub standing_of : Purpose → ℕ → Standing

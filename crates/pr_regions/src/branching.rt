@@ -2,7 +2,7 @@
 
 ghost use Rattle.std.specs.Prelude.{◌≡◌, ℕ, [], ◌∷◌, None, Option};
 ghost use Rattle.pr_registry.specs.declared.held.Held.{Held};
-ghost use Rattle.pr_regions.specs.declared.purpose.Purpose.{Purpose};
+ghost use Rattle.pr_regions.specs.Purposes.{Purpose};
 ghost use Rattle.pr_regions.specs.declared.purpose.Standing.{Standing};
 ghost use Rattle.pr_regions.specs.inside.Parts.{any, Leaves, AlwaysEnds, Tell};
 

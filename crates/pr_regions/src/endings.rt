@@ -11,7 +11,7 @@ ghost use Rattle.pr_regions.specs.inside.Parts.{AlwaysEnds, EndsFor, told_if, ho
 
 use crate::conditions::is_holder_as;
 use crate::initiator::Initiator;
-use crate::purpose::{Purpose, Standing};
+use crate::purpose::Standing;
 use crate::region::{Ending, Transition};
 use crate::words::every_key;
 use pr_cdb::Kind;
@@ -21,7 +21,7 @@ use pr_cdb::codes::{
 };
 use pr_registry::{Held, is_for_registrants, is_held_by_all, is_kind, kind_of, new_reservation};
 use pr_sets::BitSet;
-use pr_unit::illegal;
+use pr_unit::{Demand, illegal};
 use pr_views::reservation_number;
 
 // Whether a sender whose registration matches so holds the reservation.
@@ -67,7 +67,7 @@ pub(crate) fn no_change(sender: Initiator) -> Transition
 
 /// To look.
 pub(crate) fn look_ending(sender: Initiator) -> Ending
-    ensures { EndsFor sender Purpose.Look result }
+    ensures { EndsFor sender Demand.Look result }
 {
     Ending::Good(no_change(sender))
 }
@@ -107,9 +107,9 @@ pub(crate) fn keeps_from_writing(sender: Initiator) -> bool
 /// To read or to write blocks, from which the reservation keeps the sender or not.
 pub(crate) fn transfer_ending(sender: Initiator, is_kept: bool, in_range: bool) -> Ending
     ensures reading { is_kept ≡ is_kept_from keeps_from_reading sender.held sender.number
-        sender.standing → EndsFor sender (Purpose.Read in_range) result }
+        sender.standing → EndsFor sender (Demand.Read in_range) result }
     ensures writing { is_kept ≡ is_kept_from keeps_from_writing sender.held sender.number
-        sender.standing → EndsFor sender (Purpose.Write in_range) result }
+        sender.standing → EndsFor sender (Demand.Write in_range) result }
 {
     if is_kept {
         Ending::Conflict
@@ -122,8 +122,8 @@ pub(crate) fn transfer_ending(sender: Initiator, is_kept: bool, in_range: bool) 
 
 /// To be registered with the key of this number.
 pub(crate) fn register_ending(sender: Initiator, key: u8) -> Ending
-    requires { HasNumber (Purpose.Register key) }
-    ensures { EndsFor sender (Purpose.Register key) result }
+    requires { HasNumber (Demand.Register key) }
+    ensures { EndsFor sender (Demand.Register key) result }
 {
     Ending::Good(Transition {
         sender: Some(key),
@@ -133,7 +133,7 @@ pub(crate) fn register_ending(sender: Initiator, key: u8) -> Ending
 
 /// To establish a reservation of this type.
 pub(crate) fn reserve_ending(sender: Initiator, kind: Kind) -> Ending
-    ensures { EndsFor sender (Purpose.Reserve kind) result }
+    ensures { EndsFor sender (Demand.Reserve kind) result }
 {
     let Some(held) = sender.held else {
         return Ending::Good(new_change(sender, kind));
@@ -159,7 +159,7 @@ pub(crate) fn release_change(kind: Kind) -> Transition
 
 /// To release a reservation of this type.
 pub(crate) fn release_ending(sender: Initiator, kind: Kind) -> Ending
-    ensures { EndsFor sender (Purpose.Release kind) result }
+    ensures { EndsFor sender (Demand.Release kind) result }
 {
     let Some(held) = sender.held else {
         return Ending::Good(no_change(sender));
@@ -179,7 +179,7 @@ pub(crate) fn release_ending(sender: Initiator, kind: Kind) -> Ending
 /// To remove the reservation and every registration.
 pub(crate) fn clear_ending() -> Ending
     ensures { (hosts : ℕ) (held : Option HeldOf) (sender : ℕ) (standing : Standing)
-        → AlwaysEnds hosts Purpose.Clear held sender standing result }
+        → AlwaysEnds hosts Demand.Clear held sender standing result }
 {
     Ending::Good(Transition {
         sender: Some(0),
@@ -191,7 +191,7 @@ pub(crate) fn clear_ending() -> Ending
 
 /// To preempt all other registrations.
 pub(crate) fn preempt_all_ending(sender: Initiator, kind: Kind) -> Ending
-    ensures { EndsFor sender (Purpose.PreemptAll kind) result }
+    ensures { EndsFor sender (Demand.PreemptAll kind) result }
 {
     if !is_held_by_all(sender.held) {
         return Ending::Fault(illegal(INVALID_FIELD_IN_PARAMETER_LIST, 0));

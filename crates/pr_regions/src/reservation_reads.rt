@@ -8,7 +8,6 @@ ghost use Rattle.pr_roles.specs.declared.limits.TheConstants.{MOST_KEYS};
 ghost use Rattle.pr_regions.specs.Readings.{AreReadingsOfAny, IsProperReading};
 ghost use Rattle.pr_regions.specs.inside.Reads.{passes_held, read_reservation, AreReadingsByHolder, IsEverywhere, TestsFit};
 
-use crate::commands::is_key;
 use crate::region::{MOST_READINGS, Reading, Region};
 use arrayvec::ArrayVec;
 use pr_cdb::Command;
@@ -16,6 +15,7 @@ use pr_registry::Held;
 use pr_roles::key_at;
 use pr_script::Test;
 use pr_sets::BitSet;
+use pr_unit::is_key;
 
 // Whether the test matches data with a reservation of this key, or with none.
 fn passes(key: Option<u64>, test: Test) -> bool

@@ -11,12 +11,12 @@ ghost use Rattle.pr_regions.specs.inside.Parts.{TellFor, told_if, is_unregistere
 use crate::branching::{ending_everywhere, two};
 use crate::endings::{change_to_reservation, no_change, release_change};
 use crate::initiator::Initiator;
-use crate::purpose::Purpose;
 use crate::region::{Branch, Ending, Region, Transition};
 use crate::words::every_key;
 use arrayvec::ArrayVec;
 use pr_registry::{Held, is_held_by_all};
 use pr_sets::BitSet;
+use pr_unit::Demand;
 
 // What unregistering changes where not all registrants hold: a single holder's reservation ends.
 fn unregister_change(sender: Initiator) -> Transition
@@ -40,7 +40,7 @@ fn unregister_change(sender: Initiator) -> Transition
 fn unregistering_registrant(sender: Initiator) -> ArrayVec<Branch, 3>
     requires all { is_held_by_all sender.held ≡ true }
     requires registered { is_unregistered sender.standing ≡ false }
-    ensures { TellFor sender Purpose.Unregister result.items }
+    ensures { TellFor sender Demand.Unregister result.items }
 {
     let others_stay = Branch {
         region: Region {
@@ -67,7 +67,7 @@ fn unregistering_registrant(sender: Initiator) -> ArrayVec<Branch, 3>
 
 /// To be registered no more.
 pub(crate) fn unregister_branches(sender: Initiator) -> ArrayVec<Branch, 3>
-    ensures { TellFor sender Purpose.Unregister result.items }
+    ensures { TellFor sender Demand.Unregister result.items }
 {
     if sender.standing.is_unregistered() {
         ending_everywhere(Ending::Good(no_change(sender)))

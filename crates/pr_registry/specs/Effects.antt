@@ -4,11 +4,8 @@
 use Rattle.std.specs.Prelude.{ℕ, ◌+◌, ◌%◌, ◌^◌, ◌==◌, ◌&&◌, if◌then◌else◌, Option, Some, None, option_map}
 use Rattle.std.specs.FinMap as map
 use Rattle.pr_cdb.specs.declared.command.Kind.{Kind}
-use Rattle.pr_cdb.specs.declared.command.Command.{Command}
-use Rattle.pr_cdb.specs.declared.command.Command.TheVariants.{TestUnitReady, RequestSense, Read, Write, ReadKeys, ReadReservation, ReportCapabilities, Register, RegisterIgnore, Reserve, Release, Clear, Preempt, PreemptAbort}
 use Rattle.pr_registry.specs.declared.held.Held.{Held}
 use Rattle.pr_registry.specs.declared.held.Held.TheVariants.{One, All}
-use Rattle.pr_registry.specs.declared.change.Change.{Change}
 use Rattle.pr_registry.specs.Hosts.{Keys, just, without, is_empty}
 use Rattle.pr_registry.specs.Registrations.{State, is_registered, new_reservation, holds_alone}
 use Rattle.pr_registry.specs.Changes.{Case, ReplacesAll, ReplacesHolder, RemovesKey, no_change, preempt_case, removed_by_preempt, is_released, change_on_unregister, change_on_release, change_on_clear, change_on_preempt}
@@ -62,46 +59,3 @@ after_preempt u h sark kind =
     let case = preempt_case u.keys u.held sark in
     let rest = without u.keys (removed_by_preempt u.keys h sark case) in
     record u { keys = rest; held = held_after_preempt rest u.held h kind case; generation = next u.generation }
-
--- REGISTER and REGISTER AND IGNORE EXISTING KEY: a key of zero unregisters, and does nothing where there
--- is no registration
-abbrev pub after_register : State → ℕ → ℕ → State
-after_register u h key =
-    if key == 0 then (if is_registered u h then without_registration u h else u) else with_registration u h key
-
-abbrev pub change_on_register : State → ℕ → ℕ → Change
-change_on_register u h key = if key == 0 && is_registered u h then change_on_unregister u h else no_change
-
--- the state after a command of h that ends GOOD
-abbrev pub after : State → ℕ → Command → State
-after u h (Register rk sark) = after_register u h sark
-after u h (RegisterIgnore sark) = after_register u h sark
-after u h (Reserve rk kind) = with_reservation u h kind
-after u h (Release rk kind) = after_release u h kind
-after u h (Clear rk) = after_clear u
-after u h (Preempt rk sark kind) = after_preempt u h sark kind
-after u h (PreemptAbort rk sark kind) = after_preempt u h sark kind
-after u h TestUnitReady = u
-after u h RequestSense = u
-after u h (Read lba blocks) = u
-after u h (Write lba blocks) = u
-after u h (ReadKeys alloc) = u
-after u h (ReadReservation alloc) = u
-after u h (ReportCapabilities alloc) = u
-
--- whom it removes and tells
-abbrev pub change : State → ℕ → Command → Change
-change u h (Register rk sark) = change_on_register u h sark
-change u h (RegisterIgnore sark) = change_on_register u h sark
-change u h (Reserve rk kind) = no_change
-change u h (Release rk kind) = change_on_release u h kind
-change u h (Clear rk) = change_on_clear u h
-change u h (Preempt rk sark kind) = change_on_preempt u h sark kind
-change u h (PreemptAbort rk sark kind) = change_on_preempt u h sark kind
-change u h TestUnitReady = no_change
-change u h RequestSense = no_change
-change u h (Read lba blocks) = no_change
-change u h (Write lba blocks) = no_change
-change u h (ReadKeys alloc) = no_change
-change u h (ReadReservation alloc) = no_change
-change u h (ReportCapabilities alloc) = no_change

@@ -14,7 +14,7 @@ pub use Rattle.pr_attention.specs.Attentions.{code_of, Codes, no_code, AreAttent
 pub use Rattle.pr_attention.proofs.lemmas.Sets.{contains-no_code}
 pub use Rattle.pr_unit.specs.Attentions.{power_on, reservations_preempted, reservations_released, registrations_preempted, Pairs, place, table_pairs}
 unfoldable pub use Rattle.pr_unit.specs.Attentions.{each_with, hosts_below, pairs_where}
-pub use Rattle.pr_unit.specs.Faults.{command_fault}
+pub use Rattle.pr_unit.specs.Conduct.{command_fault}
 pub use Rattle.pr_unit.specs.Replies.{good, check, report, data_of}
 pub use Rattle.pr_unit.specs.Steps.{last_decision, decision, StepBy, Step}
 pub use Rattle.pr_unit.specs.TakenSteps.{ends_good}

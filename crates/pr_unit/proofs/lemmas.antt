@@ -1,4 +1,5 @@
 pub mod Attentions
+pub mod Demands
 pub mod Steps
 pub mod TakenSteps
 pub mod UnitStates

@@ -1,17 +1,17 @@
 -- Agrees with docs/MODEL.md, 'What a failed command changes'.
 -- What holds of every step.
-use Rattle.std.specs.Prelude.{◌≡◌, ◌≢◌, ℕ, ◌<◌, ◌⊎◌, ◌==◌, ◌&&◌, ◌||◌, nat_lt, Bool, true, false, IsTrue, None, Ok}
+use Rattle.std.specs.Prelude.{◌≡◌, ◌≢◌, ℕ, ◌<◌, ◌⊎◌, ◌==◌, ◌&&◌, ◌||◌, not, nat_lt, Bool, true, false, IsTrue, None, Ok}
 use Rattle.pr_cdb.specs.declared.command.Command.{Command}
-use Rattle.pr_cdb.specs.declared.command.Command.TheVariants.{TestUnitReady, RequestSense, Read, Write, ReadKeys, ReadReservation, ReportCapabilities, Register, RegisterIgnore, Reserve, Release, Clear, Preempt, PreemptAbort}
+use Rattle.pr_cdb.specs.declared.codes.TheConstants.{PERSISTENT_RESERVE_OUT}
 use Rattle.pr_cdb.specs.declared.reply.Reply.{Reply}
 use Rattle.pr_cdb.specs.declared.wire.Request.{Request}
 use Rattle.pr_cdb.specs.declared.wire.Request.TheVariants.{Plain, Faulty}
 use Rattle.pr_cdb.specs.Ranges.{Fits, FitsWhereRead}
+use Rattle.pr_cdb.specs.Spelling.{operation_code}
 use Rattle.pr_cdb.specs.Statuses.{is_busy_status, is_full_status}
 use Rattle.pr_unit.specs.Attentions.{power_on}
 use Rattle.pr_unit.specs.UnitStates.{UnitState, IsWellFormed, is_pending, is_any_pending, effect, reset}
-use Rattle.pr_unit.specs.Conflicts.{command_conflicts}
-use Rattle.pr_unit.specs.Faults.{command_fault}
+use Rattle.pr_unit.specs.Conduct.{command_conflicts, command_fault}
 use Rattle.pr_unit.specs.Replies.{good, is_good, is_request_sense, data_of}
 use Rattle.pr_unit.specs.Steps.{Step}
 
@@ -81,20 +81,7 @@ pub record IsQuiet (u : UnitState) (h : ℕ) (v : UnitState) : Type 0 where
 
 -- the request only looks: it is no PERSISTENT RESERVE OUT
 abbrev pub request_looks : Request → Bool
-request_looks (Plain TestUnitReady) = true
-request_looks (Plain RequestSense) = true
-request_looks (Plain (Read lba blocks)) = true
-request_looks (Plain (Write lba blocks)) = true
-request_looks (Plain (ReadKeys alloc)) = true
-request_looks (Plain (ReadReservation alloc)) = true
-request_looks (Plain (ReportCapabilities alloc)) = true
-request_looks (Plain (Register rk sark)) = false
-request_looks (Plain (RegisterIgnore sark)) = false
-request_looks (Plain (Reserve rk kind)) = false
-request_looks (Plain (Release rk kind)) = false
-request_looks (Plain (Clear rk)) = false
-request_looks (Plain (Preempt rk sark kind)) = false
-request_looks (Plain (PreemptAbort rk sark kind)) = false
+request_looks (Plain c) = not (operation_code c == PERSISTENT_RESERVE_OUT)
 request_looks (Faulty sense) = true
 
 -- what does not end GOOD, and what only looks, changes at most what is pending for the sender

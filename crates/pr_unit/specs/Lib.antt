@@ -1,8 +1,8 @@
 pub mod Attentions
+pub mod Demands
+pub mod Conduct
 pub mod UnitStates
 pub mod Capacity
-pub mod Conflicts
-pub mod Faults
 pub mod Replies
 pub mod Steps
 pub mod TakenSteps

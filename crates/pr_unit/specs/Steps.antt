@@ -9,8 +9,7 @@ use Rattle.pr_unit.specs.declared.decision.Decision.{Decision}
 use Rattle.pr_unit.specs.declared.decision.Decision.TheVariants.{PowerOn, Conflicting, Attention, AtFault, Done}
 use Rattle.pr_unit.specs.Attentions.{power_on}
 use Rattle.pr_unit.specs.UnitStates.{UnitState, is_pending, is_any_pending, effect, after_report}
-use Rattle.pr_unit.specs.Conflicts.{conflicts}
-use Rattle.pr_unit.specs.Faults.{fault}
+use Rattle.pr_unit.specs.Conduct.{conflicts, fault}
 use Rattle.pr_unit.specs.Replies.{good, check, conflict, report, data_of}
 
 -- what decides how a request ends: a fault of its own, or nothing

@@ -8,8 +8,9 @@ use Rattle.pr_cdb.specs.declared.command.Command.{Command}
 use Rattle.pr_registry.specs.declared.change.Change.{Change}
 use Rattle.pr_registry.specs.Hosts.{Hosts}
 use Rattle.pr_registry.specs.Registrations.{State, IsWellFormed as IsWellFormedRegistry}
-use Rattle.pr_registry.specs.Effects.{after, change}
 use Rattle.pr_attention.specs.Attentions.{Codes}
+use Rattle.pr_unit.specs.Demands.{demand_of}
+use Rattle.pr_unit.specs.Conduct.{conduct}
 use Rattle.pr_unit.specs.Attentions.{Pairs, table_pairs, attentions, is_attention, hosts_below, each_with, power_on, reservations_preempted, reservations_released, registrations_preempted}
 
 pub record UnitState : Type 0 where
@@ -43,6 +44,14 @@ quiet_unit registry = record { registry = registry; pending = set.empty }
 abbrev pub pending_after : Pairs → Change → Pairs
 pending_after pending c =
     set.union (set.union (set.union pending (each_with c.told_03 reservations_preempted)) (each_with c.told_04 reservations_released)) (each_with c.told_05 registrations_preempted)
+
+-- the registrations, the reservation and PRGENERATION after a command of h that ends GOOD
+abbrev pub after : State → ℕ → Command → State
+after u h c = (conduct u h (demand_of c)).after
+
+-- whom it removes and tells
+abbrev pub change : State → ℕ → Command → Change
+change u h c = (conduct u h (demand_of c)).change
 
 -- the state after a command of h that ends GOOD
 abbrev pub effect : UnitState → ℕ → Command → UnitState

@@ -1,3 +1,4 @@
 pub mod Told
 pub mod UnitCodes
 pub mod Following
+pub mod Readiness

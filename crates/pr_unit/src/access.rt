@@ -1,7 +1,7 @@
 //! To whom a reservation leaves an access.
 
 ghost use Rattle.std.specs.Prelude.{◌≡◌, ◌<◌};
-ghost use Rattle.pr_unit.specs.Conflicts.{read_access, write_access, is_denied, access_conflicts};
+ghost use Rattle.pr_unit.specs.Conduct.{read_access, write_access, is_denied, access_conflicts};
 
 use pr_cdb::Kind;
 use pr_registry::{Registry, kind_of};

@@ -4,17 +4,16 @@ ghost use Rattle.std.specs.Prelude.{◌≡◌, ◌<◌, false, None};
 ghost use Rattle.std.specs.FinSet as set;
 ghost use Rattle.pr_attention.specs.Attentions.{code_of};
 ghost use Rattle.pr_registry.specs.Registrations.{IsWellFormed};
-ghost use Rattle.pr_registry.specs.Effects.{after};
 ghost use Rattle.pr_unit.specs.Attentions.{table_pairs};
 ghost use Rattle.pr_unit.specs.UnitStates.{unit_of, effect};
-ghost use Rattle.pr_unit.specs.Conflicts.{command_conflicts};
-ghost use Rattle.pr_unit.specs.Faults.{command_fault};
+ghost use Rattle.pr_unit.specs.Conduct.{command_conflicts, command_fault};
 ghost use Rattle.pr_unit.specs.Replies.{good, report, data_of};
 ghost use Rattle.pr_unit.specs.TakenSteps.{TakenStep};
 
+use crate::conduct::apply;
 use crate::data::data;
 use crate::decision::{Decision, decide};
-use crate::effects::apply;
+use crate::demand::demand_of;
 use crate::{pending_table, reply};
 use pr_attention::{Attention, Pending};
 use pr_cdb::codes::MOST_NEXUSES;
@@ -109,6 +108,6 @@ pub(crate) fn take_effect(
     ensures { unit_of registry.new pendings.new
         ≡ effect (unit_of registry.old pendings.old) host command }
 {
-    let change = apply(registry, host, command);
+    let change = apply(registry, host, demand_of(command));
     pending_table::tell_change(pendings, &change);
 }

@@ -1,9 +1,12 @@
 //! Which commands end in RESERVATION CONFLICT (SPC-4, 'Reservations', the table of commands that are allowed).
 
-ghost use Rattle.std.specs.Prelude.{◌≡◌, ◌<◌};
-ghost use Rattle.pr_unit.specs.Conflicts.{is_wrong_key, lacks_key, preempt_conflicts, command_conflicts};
+ghost use Rattle.std.specs.Prelude.{◌≡◌, ◌<◌, not};
+ghost use Rattle.pr_registry.specs.Hosts.{is_key};
+ghost use Rattle.pr_unit.specs.Demands.{is_wrong_key, keeps_out, is_refused};
+ghost use Rattle.pr_unit.specs.Conduct.{command_conflicts};
 
-use crate::access::{reading_conflicts, writing_conflicts};
+use crate::conduct::is_kept;
+use crate::demand::{Admission, admission_of, demand_of};
 use pr_cdb::Command;
 use pr_registry::Registry;
 
@@ -12,28 +15,21 @@ pub(crate) fn command_conflicts(registry: &Registry, host: u8, command: Command)
     requires { host < registry.now.hosts }
     ensures { result ≡ command_conflicts registry.now host command }
 {
-    match command {
-        Command::Register { rk, .. } => is_wrong_key(registry.key(host), rk),
-        Command::Reserve { rk, kind } => {
-            lacks_key(registry, host, rk) || registry.conflicts_with_reserve(host, kind)
-        }
-        Command::Release { rk, .. } => lacks_key(registry, host, rk),
-        Command::Clear { rk } => lacks_key(registry, host, rk),
-        Command::Preempt { rk, sark, .. } => preempt_conflicts(registry, host, rk, sark),
-        Command::PreemptAbort { rk, sark, .. } => preempt_conflicts(registry, host, rk, sark),
-        Command::Read { .. } => reading_conflicts(registry, host),
-        Command::Write { .. } => writing_conflicts(registry, host),
-        Command::TestUnitReady
-        | Command::RequestSense
-        | Command::ReadKeys { .. }
-        | Command::ReadReservation { .. }
-        | Command::ReportCapabilities { .. }
-        | Command::RegisterIgnore { .. } => false,
+    is_refused(registry.key(host), command) || is_kept(registry, host, demand_of(command))
+}
+
+/// Whether the command is refused from a sender with this key, if it has one, for the reservation key that it names.
+pub fn is_refused(key: Option<u64>, command: Command) -> bool
+    ensures { result ≡ is_refused key command }
+{
+    match admission_of(command) {
+        Admission::Open => false,
+        Admission::OwnOrNone(rk) => is_wrong_key(key, rk),
+        Admission::Own(rk) => !is_key(key, rk),
     }
 }
 
-/// Whether a REGISTER with this reservation key is refused: it needs the key that the host has, or zero where it has none.
-pub fn is_wrong_key(key: Option<u64>, rk: u64) -> bool
+fn is_wrong_key(key: Option<u64>, rk: u64) -> bool
     ensures { result ≡ is_wrong_key key rk }
 {
     match key {
@@ -42,20 +38,12 @@ pub fn is_wrong_key(key: Option<u64>, rk: u64) -> bool
     }
 }
 
-// Every service action but the two that register needs the key of a registered sender.
-fn lacks_key(registry: &Registry, host: u8, rk: u64) -> bool
-    requires { host < registry.now.hosts }
-    ensures { result ≡ lacks_key registry.now host rk }
+/// Whether this is the key.
+pub fn is_key(key: Option<u64>, rk: u64) -> bool
+    ensures { result ≡ is_key key rk }
 {
-    match registry.key(host) {
-        None => true,
-        Some(key) => key != rk,
+    match key {
+        None => false,
+        Some(key) => key == rk,
     }
-}
-
-fn preempt_conflicts(registry: &Registry, host: u8, rk: u64, sark: u64) -> bool
-    requires { host < registry.now.hosts }
-    ensures { result ≡ preempt_conflicts registry.now host rk sark }
-{
-    lacks_key(registry, host, rk) || (sark != 0 && registry.has_no_registrant(sark))
 }

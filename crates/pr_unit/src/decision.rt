@@ -4,11 +4,11 @@ ghost use Rattle.std.specs.Prelude.{◌≡◌, ◌<◌};
 ghost use Rattle.pr_unit.specs.UnitStates.{unit_of};
 ghost use Rattle.pr_unit.specs.Steps.{decision};
 ghost use Rattle.pr_unit.specs.TakenSteps.{ends_good};
-ghost use Rattle.pr_unit.specs.Conflicts.{conflicts};
-ghost use Rattle.pr_unit.specs.Faults.{fault};
+ghost use Rattle.pr_unit.specs.Conduct.{conflicts, fault};
 
+use crate::conduct::fault_of;
 use crate::conflicts::command_conflicts;
-use crate::faults::command_fault;
+use crate::demand::demand_of;
 use crate::pending_table;
 use pr_attention::{Attention, Pending};
 use pr_cdb::codes::MOST_NEXUSES;
@@ -72,7 +72,7 @@ fn fault(registry: &Registry, host: u8, request: Request) -> Option<Sense>
     ensures { result ≡ fault registry.now host request }
 {
     match request {
-        Request::Plain(command) => command_fault(registry, host, command),
+        Request::Plain(command) => fault_of(registry, host, demand_of(command)),
         Request::Faulty(sense) => Some(sense),
     }
 }

@@ -3,8 +3,7 @@
 ghost use Rattle.std.specs.Prelude.{◌≡◌, ◌<◌, false, None};
 ghost use Rattle.pr_attention.specs.Attentions.{code_of};
 ghost use Rattle.pr_unit.specs.UnitStates.{IsWellFormed, unit_of};
-ghost use Rattle.pr_unit.specs.Conflicts.{command_conflicts};
-ghost use Rattle.pr_unit.specs.Faults.{command_fault};
+ghost use Rattle.pr_unit.specs.Conduct.{command_conflicts, command_fault};
 ghost use Rattle.pr_unit.specs.Follows.{IsFollowed};
 ghost use Rattle.pr_unit.specs.inside.Following.{IsReported, IsAnyReported, IsDoneSo};
 

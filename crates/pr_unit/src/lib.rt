@@ -3,19 +3,20 @@
 
 mod access;
 mod answers;
+mod conduct;
 mod conflicts;
 mod data;
 mod decision;
-mod effects;
-mod faults;
+mod demand;
 mod follows;
 mod laws;
 mod pending_table;
 mod reply;
 mod unit;
 
-pub use conflicts::is_wrong_key;
-pub use faults::illegal;
+pub use conduct::illegal;
+pub use conflicts::{is_key, is_refused};
+pub use demand::{Admission, Demand, admission_of, demand_of};
 pub use laws::{
     capacity_agrees, effects_are_well_formed, every_request_has_a_step, free_commands_end_good,
     good_is_fixed, good_steps_take_effect, quiet_steps, resets_are_well_formed, resets_tell_each,

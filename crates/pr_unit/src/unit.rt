@@ -48,8 +48,7 @@ impl Unit {
     ghost use Rattle.pr_cdb.specs.declared.reply.Reply.{Reply};
     ghost use Rattle.pr_unit.specs.UnitStates.{UnitState, IsWellFormed, unit_of, is_pending, effect, quiet_unit, reset};
     ghost use Rattle.pr_unit.specs.Replies.{is_good};
-    ghost use Rattle.pr_unit.specs.Conflicts.{command_conflicts};
-    ghost use Rattle.pr_unit.specs.Faults.{command_fault};
+    ghost use Rattle.pr_unit.specs.Conduct.{command_conflicts, command_fault};
     ghost use Rattle.pr_unit.specs.Steps.{Step, decision};
     ghost use Rattle.pr_unit.specs.TakenSteps.{Executes, ends_good};
     ghost use Rattle.pr_unit.specs.Follows.{Follows};

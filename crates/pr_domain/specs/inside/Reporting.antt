@@ -11,8 +11,7 @@ use Rattle.pr_attention.specs.Attentions.{power_on, code_of}
 use Rattle.pr_attention.specs.Flagged.{codes_of}
 use Rattle.pr_attention.specs.declared.attention.Attention.TheVariants.{PowerOn, ReservationsPreempted, ReservationsReleased, RegistrationsPreempted}
 use Rattle.pr_unit.specs.UnitStates.{UnitState, is_pending, is_any_pending, effect, after_report}
-use Rattle.pr_unit.specs.Conflicts.{command_conflicts}
-use Rattle.pr_unit.specs.Faults.{command_fault}
+use Rattle.pr_unit.specs.Conduct.{command_conflicts, command_fault}
 use Rattle.pr_unit.specs.Replies.{good, check, conflict, busy, full, report, data_of}
 use Rattle.pr_script.specs.declared.script.Test.{Test}
 use Rattle.pr_script.specs.declared.script.Test.TheVariants as test

@@ -5,8 +5,8 @@ use Rattle.std.specs.List.{slice_get, Contains}
 use Rattle.std.specs.Option.{option_map_or}
 use Rattle.pr_cdb.specs.declared.command.Command.{Command}
 use Rattle.pr_unit.specs.UnitStates.{UnitState, effect}
-use Rattle.pr_unit.specs.Conflicts.{command_conflicts}
-use Rattle.pr_unit.specs.Faults.{command_fault}
+use Rattle.pr_unit.specs.Conduct.{command_conflicts, command_fault}
+use Rattle.pr_unit.specs.Demands.{is_refused}
 use Rattle.pr_unit.specs.Replies.{good, data_of}
 use Rattle.pr_script.specs.declared.script.Test.{Test}
 use Rattle.pr_script.specs.Grammar.{is_read_keys, is_read_reservation}
@@ -27,9 +27,8 @@ use Rattle.pr_regions.specs.declared.region.Ending.TheVariants as ending
 use Rattle.pr_regions.specs.Transitions.{Does, never}
 use Rattle.pr_registry.specs.Registrations.{State}
 use Rattle.pr_script.specs.declared.limits.TheConstants.{MOST_ARMS}
-use Rattle.pr_regions.specs.declared.purpose.Purpose.{Purpose}
+use Rattle.pr_regions.specs.Purposes.{Purpose, purpose_of}
 use Rattle.pr_regions.specs.declared.purpose.Standing.{Standing}
-use Rattle.pr_regions.specs.Purposes.{purpose_of, is_refused}
 use Rattle.pr_regions.specs.Regions.{Ends, IsInRegion, IsUntestedOrRegistered, standing_of}
 use Rattle.pr_regions.specs.declared.place.Place.{Place}
 use Rattle.pr_domain.specs.declared.tally.Tally.{Tally}

@@ -8,9 +8,9 @@ use Rattle.pr_roles.specs.Keys.{key_at}
 use Rattle.pr_views.specs.Possibilities.{Scope}
 use Rattle.pr_views.specs.Portions.{view_in}
 use Rattle.pr_regions.specs.declared.place.Place.{Place}
-use Rattle.pr_regions.specs.declared.purpose.Purpose.{Purpose}
+use Rattle.pr_regions.specs.Purposes.{Purpose, purpose_of}
 use Rattle.pr_regions.specs.Gathering.{IsUniform}
-use Rattle.pr_regions.specs.Purposes.{purpose_of, is_refused}
+use Rattle.pr_unit.specs.Demands.{is_refused}
 use Rattle.pr_regions.specs.Regions.{standing_of}
 use Rattle.pr_domain.specs.declared.tally.Tally.{Tally}
 use Rattle.pr_domain.specs.declared.tested.TestedCommand.{TestedCommand}

@@ -1,6 +1,7 @@
 -- What the clauses of a role ask for, reservation by reservation and standing by standing.
-use Rattle.std.specs.Prelude.{◌≡◌, ℕ, ◌<◌, ◌≤◌, Bool, true, false, not, ◌&&◌, ◌||◌, List, length, Option, Some, None, option_map}
+use Rattle.std.specs.Prelude.{◌≡◌, ℕ, ◌<◌, ◌≤◌, Bool, true, false, not, ◌&&◌, ◌||◌, ◌==◌, if◌then◌else◌, List, length, Option, Some, None, option_map}
 use Rattle.pr_cdb.specs.declared.command.Command.{Command}
+use Rattle.pr_cdb.specs.declared.command.Kind.{Kind}
 use Rattle.pr_registry.specs.declared.held.Held.{Held}
 use Rattle.pr_registry.specs.Registrations.{kind_of}
 use Rattle.pr_unit.specs.UnitStates.{UnitState, effect}
@@ -17,17 +18,20 @@ use Rattle.pr_views.specs.Possibilities.{Scope, Registration, Reservation, IsSo,
 use Rattle.pr_views.specs.declared.possibilities.Possibilities.{Possibilities}
 use Rattle.pr_views.specs.Portions.{view_in}
 use Rattle.pr_views.specs.Views.{View, Shows}
-use Rattle.pr_regions.specs.declared.purpose.Purpose.{Purpose}
-use Rattle.pr_regions.specs.declared.purpose.Purpose.TheVariants.{Look, Read, Write, Register, Unregister, Reserve, Release, Clear, PreemptAll, Preempt}
+use Rattle.pr_regions.specs.Purposes.{Purpose, number_in, purpose_of}
+use Rattle.pr_unit.specs.declared.demand.Demand.TheVariants.{Look, Read, Write, Register, Unregister, Reserve, Release, Clear, PreemptAll, Preempt}
 use Rattle.pr_regions.specs.declared.purpose.Standing.{Standing}
 use Rattle.pr_regions.specs.declared.purpose.Standing.TheVariants.{Unregistered, Named, Other}
 use Rattle.pr_regions.specs.Conditions.{holds_as}
-use Rattle.pr_regions.specs.Purposes.{number_in, purpose_of_preempt, purpose_of}
 use Rattle.pr_regions.specs.Regions.{standing_of}
 use Rattle.pr_interference.specs.inside.Interfering.{IsFree, IsOnlooking, IsWatched, ClauseLeaves}
 use Rattle.pr_interference.specs.declared.onlooker.Onlooker.{Onlooker}
 use Rattle.pr_regions.specs.declared.place.Place.{Place}
 use Rattle.pr_regions.specs.inside.Adding.{Adds}
+
+-- the key zero is all other registrations
+abbrev pub purpose_of_preempt : List ℕ → ℕ → Kind → Purpose
+purpose_of_preempt keys key kind = if key == 0 then PreemptAll kind else Preempt (number_in keys key) kind
 
 -- What a clause of this action asks for under a reservation, if it changes anything: a RELEASE releases the type that
 -- stands.

@@ -3,8 +3,7 @@ use Rattle.std.specs.Prelude.{◌≡◌, ◌↔◌, ℕ, Bool, true, false, not,
 use Rattle.std.specs.List.{All as Each, Any, list_any}
 use Rattle.pr_cdb.specs.declared.command.Command.{Command}
 use Rattle.pr_unit.specs.UnitStates.{UnitState}
-use Rattle.pr_unit.specs.Conflicts.{command_conflicts}
-use Rattle.pr_unit.specs.Faults.{command_fault}
+use Rattle.pr_unit.specs.Conduct.{command_conflicts, command_fault}
 use Rattle.pr_script.specs.Grammar.{is_written}
 use Rattle.pr_roles.specs.declared.role.Clause.{Clause}
 use Rattle.pr_roles.specs.Permits.{names, clause_permits}

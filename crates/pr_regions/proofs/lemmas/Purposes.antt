@@ -1,1 +1,2 @@
 pub mod Conduct
+pub mod Written

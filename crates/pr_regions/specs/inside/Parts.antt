@@ -13,8 +13,8 @@ use Rattle.pr_views.specs.Possibilities.{Scope}
 use Rattle.pr_regions.specs.declared.region.Region.{Region}
 use Rattle.pr_regions.specs.declared.region.Ending.{Ending}
 use Rattle.pr_regions.specs.declared.region.Branch.{Branch}
-use Rattle.pr_regions.specs.declared.purpose.Purpose.{Purpose}
-use Rattle.pr_regions.specs.declared.purpose.Purpose.TheVariants.{Preempt}
+use Rattle.pr_regions.specs.Purposes.{Purpose}
+use Rattle.pr_unit.specs.declared.demand.Demand.TheVariants.{Preempt}
 use Rattle.pr_regions.specs.declared.purpose.Standing.{Standing}
 use Rattle.pr_regions.specs.declared.purpose.Standing.TheVariants.{Unregistered, Named, Other}
 use Rattle.pr_regions.specs.declared.initiator.Initiator.{Initiator}

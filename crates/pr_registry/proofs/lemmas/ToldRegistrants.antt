@@ -4,12 +4,9 @@ use Rattle.std.specs.FinSet as set
 use Rattle.std.specs.FinMap as map
 use Rattle.std.proofs.lemmas.Bool.{and_parts}
 use Rattle.pr_cdb.specs.declared.command.Kind.{Kind}
-use Rattle.pr_cdb.specs.declared.command.Command.{Command}
-use Rattle.pr_cdb.specs.declared.command.Command.TheVariants.{Register, RegisterIgnore, Release, Clear, Preempt, PreemptAbort}
 use Rattle.pr_registry.specs.declared.change.Change.{Change}
 use Rattle.pr_registry.specs.Registrations.{others, registrants, holds_alone}
-use Rattle.pr_registry.specs.Changes.{Case, ReplacesAll, ReplacesHolder, RemovesKey, no_change, is_new_type, is_released, is_told_of_loss, change_on_unregister, change_on_preempt}
-use Rattle.pr_registry.specs.Effects.{change, change_on_register}
+use Rattle.pr_registry.specs.Changes.{Case, ReplacesAll, ReplacesHolder, RemovesKey, no_change, is_new_type, is_released, is_told_of_loss, change_on_unregister, change_on_release, change_on_clear, change_on_preempt}
 use Rattle.pr_registry.proofs.lemmas.Sets.{contains-nobody, contains-remove, contains-difference, contains-hosts_in, contains-hosts_with}
 
 -- each of these hosts is registered
@@ -52,24 +49,27 @@ AreRegistered-removed u h sark ReplacesAll = AreRegistered-remove u (hosts_in u.
 AreRegistered-removed u h sark (ReplacesHolder t) = AreRegistered-remove u (hosts_with u.keys sark) h (AreRegistered-hosts_with u sark)
 AreRegistered-removed u h sark RemovesKey = AreRegistered-hosts_with u sark
 
-tells_nobody : (u : State) → TellsRegistrants u no_change
+pub tells_nobody : (u : State) → TellsRegistrants u no_change
 tells_nobody u = record { told_03 = AreRegistered-nobody u; told_04 = AreRegistered-nobody u; told_05 = AreRegistered-nobody u }
 
-tells_on_unregister : (u : State) (h : ℕ) → TellsRegistrants u (change_on_unregister u h)
+pub tells_on_unregister : (u : State) (h : ℕ) → TellsRegistrants u (change_on_unregister u h)
 tells_on_unregister u h = record {
   told_03 = AreRegistered-nobody u;
   told_04 = AreRegistered-if u (holds_alone u.held h && is_told_of_loss u.held) (others u h) (AreRegistered-others u h);
   told_05 = AreRegistered-nobody u;
 }
 
-tells_on_register : (u : State) (h key : ℕ) → TellsRegistrants u (change_on_register u h key)
-tells_on_register u h key = at (key == 0 && is_registered u h)
-  where
-    at : (b : Bool) → TellsRegistrants u (if b then change_on_unregister u h else no_change)
-    at true = tells_on_unregister u h
-    at false = tells_nobody u
+pub tells_on_release : (u : State) (h : ℕ) (kind : Kind) → TellsRegistrants u (change_on_release u h kind)
+tells_on_release u h kind = record {
+  told_03 = AreRegistered-nobody u;
+  told_04 = AreRegistered-if u (is_released u h kind && is_told_of_loss u.held) (others u h) (AreRegistered-others u h);
+  told_05 = AreRegistered-nobody u;
+}
 
-tells_on_preempt : (u : State) (h sark : ℕ) (kind : Option Kind) → TellsRegistrants u (change_on_preempt u h sark kind)
+pub tells_on_clear : (u : State) (h : ℕ) → TellsRegistrants u (change_on_clear u h)
+tells_on_clear u h = record { told_03 = AreRegistered-others u h; told_04 = AreRegistered-nobody u; told_05 = AreRegistered-nobody u }
+
+pub tells_on_preempt : (u : State) (h sark : ℕ) (kind : Option Kind) → TellsRegistrants u (change_on_preempt u h sark kind)
 tells_on_preempt u h sark kind =
     let case = preempt_case u.keys u.held sark in
     let removed = removed_by_preempt u.keys h sark case in
@@ -78,16 +78,3 @@ tells_on_preempt u h sark kind =
       told_04 = AreRegistered-if u (is_new_type kind case) (set.difference (others u h) removed) (AreRegistered-difference u (others u h) removed (AreRegistered-others u h));
       told_05 = AreRegistered-remove u removed h (AreRegistered-removed u h sark case);
     }
-
-pub tells_registrants : (u : State) (h : ℕ) (c : Command) → TellsRegistrants u (change u h c)
-tells_registrants u h (Register rk sark) = tells_on_register u h sark
-tells_registrants u h (RegisterIgnore sark) = tells_on_register u h sark
-tells_registrants u h (Release rk kind) = record {
-  told_03 = AreRegistered-nobody u;
-  told_04 = AreRegistered-if u (is_released u h kind && is_told_of_loss u.held) (others u h) (AreRegistered-others u h);
-  told_05 = AreRegistered-nobody u;
-}
-tells_registrants u h (Clear rk) = record { told_03 = AreRegistered-others u h; told_04 = AreRegistered-nobody u; told_05 = AreRegistered-nobody u }
-tells_registrants u h (Preempt rk sark kind) = tells_on_preempt u h sark kind
-tells_registrants u h (PreemptAbort rk sark kind) = tells_on_preempt u h sark kind
-tells_registrants u h _ = tells_nobody u

@@ -7,8 +7,7 @@ use Rattle.pr_cdb.specs.ReplyData.{sense_bytes}
 use Rattle.pr_unit.specs.Attentions.{power_on, attention_sense}
 use Rattle.pr_unit.specs.UnitStates.{is_pending, is_any_pending, after_report}
 use Rattle.pr_unit.specs.Replies.{good, check, report, is_request_sense}
-use Rattle.pr_unit.specs.Conflicts.{conflicts}
-use Rattle.pr_unit.specs.Faults.{fault}
+use Rattle.pr_unit.specs.Conduct.{conflicts, fault}
 use Rattle.pr_unit.specs.Steps.{StepBy, Reports, IsDone, Step, last_decision}
 
 -- two codes with one sense are one

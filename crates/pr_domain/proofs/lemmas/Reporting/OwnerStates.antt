@@ -4,7 +4,9 @@ use Rattle.std.specs.FinSet as set
 use Rattle.std.specs.FinMap as map
 use Rattle.std.proofs.lemmas.Bool.{false_from_ne_true}
 use Rattle.pr_cdb.specs.declared.command.Kind.{Kind}
-use Rattle.pr_cdb.specs.declared.command.Command.TheVariants.{Register, RegisterIgnore, Release, Clear, Preempt, PreemptAbort}
+use Rattle.pr_unit.specs.declared.demand.Demand.TheVariants.{Look, Read, Write, Register, Unregister, Reserve, Release, Clear, PreemptAll, Preempt}
+use Rattle.pr_unit.specs.Demands.{Asked, demand_of}
+use Rattle.pr_unit.specs.Conduct.{conduct}
 use Rattle.pr_attention.proofs.lemmas.Sets.{same_codes, contains-no_code, contains-remove_code}
 use Rattle.pr_attention.proofs.lemmas.Bits.{same_bits, codes_of-zero, AreAttentions-codes_of}
 use Rattle.pr_attention.proofs.lemmas.FourCodes.{which}
@@ -12,11 +14,15 @@ use Rattle.pr_registry.specs.declared.change.Change.{Change}
 use Rattle.pr_registry.specs.Hosts.{Hosts, Keys, nobody, just, without}
 use Rattle.pr_registry.specs.Registrations.{is_registered, others, holds_alone}
 use Rattle.pr_registry.specs.Changes.{no_change, removed_by_preempt, preempt_case, is_new_type, is_released, is_told_of_loss, change_on_unregister, change_on_preempt}
-use Rattle.pr_registry.specs.Effects.{with_registration, without_registration, after_register, after, change}
+use Rattle.pr_registry.specs.Effects.{with_registration, without_registration}
+use Rattle.pr_unit.specs.UnitStates.{after, change}
 use Rattle.pr_registry.proofs.lemmas.Sets.{contains-nobody, contains-difference, get-insert, get-empty, get-without}
 use Rattle.pr_unit.proofs.lemmas.Attentions.Pairs.{contains-remove-pair}
 use Rattle.pr_unit.proofs.lemmas.Attentions.ToldAttentions.{is_pending_after, contains-told}
 use Rattle.pr_script.specs.Grammar.{is_declared}
+use Rattle.std.specs.Option.{option_map_or}
+use Rattle.pr_regions.specs.Purposes.{named}
+use Rattle.pr_regions.proofs.lemmas.Purposes.Written.{written_declared}
 use Rattle.pr_regions.proofs.lemmas.Regions.Effects.{not_itself, contains-others_itself}
 use Rattle.pr_domain.specs.inside.Reporting.{IsAfter}
 use Rattle.pr_domain.proofs.lemmas.Reporting.Ends.{any_pending}
@@ -73,13 +79,13 @@ none_if : (s : Hosts) (h : ℕ) (b : Bool) → set.contains s h ≡ false → se
 none_if s h true none = none
 none_if s h false none = contains-nobody h
 
-registering : (u : State) (h : ℕ) (b : Bool) → IsUntold (if b then change_on_unregister u h else no_change) h
-registering u h true = record {
+unregistering : (u : State) (h : ℕ) (b : Bool) → IsUntold (if b then change_on_unregister u h else no_change) h
+unregistering u h true = record {
   untold_03 = contains-nobody h;
   untold_04 = none_if (others u h) h (holds_alone u.held h && is_told_of_loss u.held) (contains-others_itself u h);
   untold_05 = contains-nobody h;
 }
-registering u h false = nobody_told h
+unregistering u h false = nobody_told h
 
 preempting : (u : State) (h sark : ℕ) (kind : Option Kind) → IsUntold (change_on_preempt u h sark kind) h
 preempting u h sark kind =
@@ -91,18 +97,20 @@ preempting u h sark kind =
       untold_05 = not_itself removed h;
     }
 
-pub untold : (u : State) (h : ℕ) (c : Command) → IsUntold (change u h c) h
-untold u h (Register rk sark) = registering u h (sark == 0 && is_registered u h)
-untold u h (RegisterIgnore sark) = registering u h (sark == 0 && is_registered u h)
-untold u h (Release rk kind) = record {
+untold_by : (u : State) (h : ℕ) (o : Asked) → IsUntold (conduct u h o).change h
+untold_by u h Unregister = unregistering u h (is_registered u h)
+untold_by u h (Release kind) = record {
   untold_03 = contains-nobody h;
   untold_04 = none_if (others u h) h (is_released u h kind && is_told_of_loss u.held) (contains-others_itself u h);
   untold_05 = contains-nobody h;
 }
-untold u h (Clear rk) = record { untold_03 = contains-others_itself u h; untold_04 = contains-nobody h; untold_05 = contains-nobody h }
-untold u h (Preempt rk sark kind) = preempting u h sark kind
-untold u h (PreemptAbort rk sark kind) = preempting u h sark kind
-untold u h _ = nobody_told h
+untold_by u h Clear = record { untold_03 = contains-others_itself u h; untold_04 = contains-nobody h; untold_05 = contains-nobody h }
+untold_by u h (PreemptAll kind) = preempting u h 0 kind
+untold_by u h (Preempt key kind) = preempting u h key kind
+untold_by u h _ = nobody_told h
+
+pub untold : (u : State) (h : ℕ) (c : Command) → IsUntold (change u h c) h
+untold u h c = untold_by u h (demand_of c)
 
 pub untold_pending : (s : Scope) (u : UnitState) (c : Command) (q : ℕ) → IsSo s u (Attentions q) → IsSo s (effect u s.own c) (Attentions q)
 untold_pending s u c q so =
@@ -146,24 +154,23 @@ numbered_without : (keys : List ℕ) (m : Keys) (removed : Hosts) (g : ℕ) → 
 numbered_without keys m removed g is =
     subst (IsNumbered keys) (sym (get-without m removed g)) (numbered_if keys (set.contains removed g) None (map.get m g) (numbered_none keys) is)
 
-numbered_register : (keys : List ℕ) (u : State) (h sark g : ℕ) → is_written_key keys sark ≡ true → IsNumbered keys (key_of u g) → IsNumbered keys (key_of (after_register u h sark) g)
-numbered_register keys u h sark g written is = at (sark == 0) (is_registered u h) refl written
-  where
-    at : (b there : Bool) → (sark == 0) ≡ b → (b || is_declared keys sark) ≡ true → IsNumbered keys (key_of (if b then (if there then without_registration u h else u) else with_registration u h sark) g)
-    at true true zero_is declared = numbered_without keys u.keys (just h) g is
-    at true false zero_is declared = is
-    at false there zero_is declared =
-        subst (IsNumbered keys) (sym (get-insert u.keys h sark g)) (numbered_if keys (g == h) (Some sark) (map.get u.keys g) (numbered_key keys sark declared) is)
+numbered_unregister : (keys : List ℕ) (u : State) (h g : ℕ) (there : Bool) → IsNumbered keys (key_of u g) → IsNumbered keys (key_of (if there then without_registration u h else u) g)
+numbered_unregister keys u h g true is = numbered_without keys u.keys (just h) g is
+numbered_unregister keys u h g false is = is
 
 numbered_preempt : (keys : List ℕ) (u : State) (h sark g : ℕ) → IsNumbered keys (key_of u g)
     → IsNumbered keys (map.get (without u.keys (removed_by_preempt u.keys h sark (preempt_case u.keys u.held sark))) g)
 numbered_preempt keys u h sark g is = numbered_without keys u.keys (removed_by_preempt u.keys h sark (preempt_case u.keys u.held sark)) g is
 
 -- what a text can write registers declared keys alone
+numbered_by : (keys : List ℕ) (u : State) (h : ℕ) (o : Asked) (g : ℕ) → option_map_or (is_declared keys) (named o) true ≡ true → IsNumbered keys (key_of u g) → IsNumbered keys (key_of (conduct u h o).after g)
+numbered_by keys u h (Register key) g declared is =
+    subst (IsNumbered keys) (sym (get-insert u.keys h key g)) (numbered_if keys (g == h) (Some key) (map.get u.keys g) (numbered_key keys key declared) is)
+numbered_by keys u h Unregister g declared is = numbered_unregister keys u h g (is_registered u h) is
+numbered_by keys u h Clear g declared is = subst (IsNumbered keys) (sym (get-empty g)) (numbered_none keys)
+numbered_by keys u h (PreemptAll kind) g declared is = numbered_preempt keys u h 0 g is
+numbered_by keys u h (Preempt key kind) g declared is = numbered_preempt keys u h key g is
+numbered_by keys u h _ g declared is = is
+
 pub numbered_after : (keys : List ℕ) (u : State) (h : ℕ) (c : Command) (g : ℕ) → is_written keys c ≡ true → IsNumbered keys (key_of u g) → IsNumbered keys (key_of (after u h c) g)
-numbered_after keys u h (Register rk sark) g written is = numbered_register keys u h sark g (and_parts (is_written_key keys rk) _ written).1 is
-numbered_after keys u h (RegisterIgnore sark) g written is = numbered_register keys u h sark g written is
-numbered_after keys u h (Clear rk) g written is = subst (IsNumbered keys) (sym (get-empty g)) (numbered_none keys)
-numbered_after keys u h (Preempt rk sark kind) g written is = numbered_preempt keys u h sark g is
-numbered_after keys u h (PreemptAbort rk sark kind) g written is = numbered_preempt keys u h sark g is
-numbered_after keys u h _ g written is = is
+numbered_after keys u h c g written is = numbered_by keys u h (demand_of c) g (written_declared keys c written) is

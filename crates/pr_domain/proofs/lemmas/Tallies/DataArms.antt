@@ -8,7 +8,7 @@ use Rattle.pr_cdb.specs.declared.command.Command.TheVariants as command
 use Rattle.pr_script.specs.declared.script.Test.TheVariants as test
 use Rattle.pr_script.specs.Grammar.{is_read_keys, is_read_reservation, is_declared}
 use Rattle.pr_script.specs.declared.landing.Class.TheVariants as class
-use Rattle.pr_regions.specs.declared.purpose.Purpose.TheVariants.{Look}
+use Rattle.pr_unit.specs.declared.demand.Demand.TheVariants.{Look}
 use Rattle.pr_regions.specs.declared.region.Ending.TheVariants as ending
 use Rattle.pr_regions.specs.Transitions.{Does, never}
 use Rattle.pr_regions.specs.Readings.{AreReadings, IsProperReading}

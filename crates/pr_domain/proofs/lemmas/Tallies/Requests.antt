@@ -1,12 +1,11 @@
 -- What a sender with one of some registrations asks for, and how that ends.
 use Rattle.pr_domain.proofs.Common.{◌≡◌, ℕ, zero, suc, ◌<◌, Bool, true, false, not, ◌&&◌, List, length, if◌then◌else◌, nat_lt, ◌==◌, Some, None, Contains, Option, option_map, sym, refl, ap, ◌∙◌, subst, arith, false≢true, or_left, nat_tests, slice_get-get_or, has, BitSet, Command, State, key_of, Held, One, command_conflicts, UnitState, Test, view_in, Scope, Registration, IsSo, Shows, Possibilities, one_registration, IsPlace, IsUniform, IsAt, is_refused, standing_of, AreBranches, Place, Branch, Region, same_reservation, IsRight, IsInOne, MOST_REGISTRATIONS}
 use Rattle.std.proofs.lemmas.Bool.{lt-ltb}
-use Rattle.pr_cdb.specs.declared.command.Command.TheVariants as command
 use Rattle.pr_registry.specs.declared.held.Held.TheVariants.{All as Everybody}
-use Rattle.pr_registry.specs.Hosts.{is_key, has_no_registrant}
-use Rattle.pr_registry.specs.Changes.{conflicts_with_reserve}
+use Rattle.pr_unit.specs.Demands.{demand_of}
+use Rattle.pr_unit.specs.Conduct.{conduct}
 use Rattle.pr_views.specs.Portions.{HasSomebody}
-use Rattle.pr_regions.specs.declared.purpose.Purpose.{Purpose}
+use Rattle.pr_regions.specs.Purposes.{Purpose}
 use Rattle.pr_regions.specs.declared.purpose.Standing.{Standing}
 use Rattle.pr_regions.specs.declared.region.Ending.TheVariants as ending
 use Rattle.pr_regions.specs.Regions.{Meets, names, filter_of, Ends, IsUntestedOrRegistered, IsProper as IsProperBranch}
@@ -122,12 +121,7 @@ asked_back s c tests view place purpose arm w standing branches asked n u shown 
 
 -- it is a conflict
 pub refused_conflicts : (u : State) (h : ℕ) (c : Command) → is_refused (key_of u h) c ≡ true → command_conflicts u h c ≡ true
-refused_conflicts u h (command.Read lba blocks) is = absurd (false≢true is)
-refused_conflicts u h (command.Write lba blocks) is = absurd (false≢true is)
-refused_conflicts u h (command.Reserve rk kind) is = or_left (not (is_key (key_of u h) rk)) (conflicts_with_reserve u h u.held kind) is
-refused_conflicts u h (command.Preempt rk sark kind) is = or_left (not (is_key (key_of u h) rk)) (not (sark == 0) && has_no_registrant u.keys sark) is
-refused_conflicts u h (command.PreemptAbort rk sark kind) is = or_left (not (is_key (key_of u h) rk)) (not (sark == 0) && has_no_registrant u.keys sark) is
-refused_conflicts u h _ is = is
+refused_conflicts u h c is = or_left (is_refused (key_of u h) c) (conduct u h (demand_of c)).kept is
 
 -- every state is in the region that leaves anything
 pub anywhere : (s : Scope) (view : Possibilities) (place : Place) (w any : BitSet) (region : Region) (u : UnitState) → IsPlace s view place

@@ -1,11 +1,12 @@
 -- What a command that a clause names asks for, and a command of each clause.
-use Rattle.pr_interference.proofs.Common.{◌≡◌, ℕ, Bool, true, false, ◌&&◌, ◌⊎◌, List, if◌then◌else◌, ◌==◌, Some, None, Option, sym, refl, ap, ◌∙◌, subst, inl, inr, arith, false≢true, and_parts, nat_tests, Command, Kind, Plain, is_kind, kind_of, IsKey, Held, request_looks, UnitState, is_declared, is_action, AreDeclared, names, Action, number_in, purpose_of_preempt, purpose_of, Purpose, Register, Unregister, Reserve, Release, Clear, purpose_for, eqb-true}
+use Rattle.pr_interference.proofs.Common.{◌≡◌, ℕ, Bool, true, false, ◌&&◌, ◌⊎◌, List, if◌then◌else◌, ◌==◌, Some, None, Option, sym, refl, ap, ◌∙◌, subst, inl, inr, arith, false≢true, and_parts, nat_tests, Command, Kind, Plain, is_kind, kind_of, IsKey, Held, request_looks, UnitState, is_declared, is_action, AreDeclared, names, Action, number_in, purpose_of_preempt, purpose_of, Purpose, Register, Unregister, Reserve, Release, Clear, PreemptAll, Preempt, purpose_for, eqb-true}
 use Rattle.pr_cdb.specs.declared.command.Command.TheVariants as command
 use Rattle.pr_registry.proofs.lemmas.Kinds.{same_kind}
 use Rattle.pr_unit.proofs.lemmas.UnitStates.Releases.{HasNoEffect, held_or_unreleased}
 use Rattle.pr_roles.specs.declared.role.Action.TheVariants as action
+use Rattle.pr_unit.specs.Demands.{registering, preempting}
+use Rattle.pr_regions.specs.Purposes.{numbered}
 use Rattle.pr_roles.proofs.lemmas.FirstElements.Tests.{any_found}
-use Rattle.pr_regions.specs.Purposes.{purpose_of_register}
 
 -- ---- keys
 
@@ -27,18 +28,26 @@ pub record IsMeant (keys : List ℕ) (a : Action) (held : Option Held) (c : Comm
 pub alone : (b : Bool) → (b && true) ≡ true → b ≡ true
 alone b is = (and_parts b true is).0
 
-pub registers_key : (keys : List ℕ) (sark key : ℕ) → AreDeclared keys → is_declared keys key ≡ true → (sark == key) ≡ true → Some (purpose_of_register keys sark) ≡ Some (Register (number_in keys key))
+pub registers_key : (keys : List ℕ) (sark key : ℕ) → AreDeclared keys → is_declared keys key ≡ true → (sark == key) ≡ true → numbered keys (registering sark) ≡ Some (Register (number_in keys key))
 registers_key keys sark key declared is same =
-    ap (λ k. Some (purpose_of_register keys k)) (eqb-true sark key same)
-    ∙ ap (λ b. Some (if b then Unregister else Register (number_in keys key))) (not_zero key (declared_key keys key declared is))
+    ap (λ k. numbered keys (registering k)) (eqb-true sark key same)
+    ∙ ap (λ b. numbered keys (if b then Unregister else Register key)) (not_zero key (declared_key keys key declared is))
 
-unregisters : (keys : List ℕ) (sark : ℕ) → (sark == 0) ≡ true → Some (purpose_of_register keys sark) ≡ Some Unregister
-unregisters keys sark same = ap (λ b. Some (if b then Unregister else Register (number_in keys sark))) same
+unregisters : (keys : List ℕ) (sark : ℕ) → (sark == 0) ≡ true → numbered keys (registering sark) ≡ Some Unregister
+unregisters keys sark same = ap (λ b. numbered keys (if b then Unregister else Register sark)) same
 
-preempts_key : (keys : List ℕ) (sark key : ℕ) (k t : Kind) → (sark == key && (is_kind k t && true)) ≡ true → Some (purpose_of_preempt keys sark k) ≡ Some (purpose_of_preempt keys key t)
+-- a PREEMPT has a purpose
+pub preempts_as : (keys : List ℕ) (key : ℕ) (t : Kind) → numbered keys (preempting key (Some t)) ≡ Some (purpose_of_preempt keys key t)
+preempts_as keys key t = at (key == 0)
+  where
+    at : (b : Bool) → numbered keys (if b then PreemptAll (Some t) else Preempt key (Some t)) ≡ Some (if b then PreemptAll t else Preempt (number_in keys key) t)
+    at true = refl
+    at false = refl
+
+preempts_key : (keys : List ℕ) (sark key : ℕ) (k t : Kind) → (sark == key && (is_kind k t && true)) ≡ true → numbered keys (preempting sark (Some k)) ≡ Some (purpose_of_preempt keys key t)
 preempts_key keys sark key k t is =
     let parts = and_parts (sark == key) (is_kind k t && true) is in
-    (λ i. Some (purpose_of_preempt keys (eqb-true sark key parts.0 i) (same_kind k t (alone (is_kind k t) parts.1) i)))
+    (λ i. numbered keys (preempting (eqb-true sark key parts.0 i) (Some (same_kind k t (alone (is_kind k t) parts.1) i)))) ∙ preempts_as keys key t
 
 is_meant : (keys : List ℕ) (a : Action) (c : Command) (u : UnitState) (p : Purpose) → purpose_for keys a u.registry.held ≡ Some p → purpose_of keys c ≡ Some p → IsMeant keys a u.registry.held c
 is_meant keys a c u p meant asked = record { purpose = p; meant = meant; asked = asked }

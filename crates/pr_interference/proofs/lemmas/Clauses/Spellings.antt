@@ -1,49 +1,42 @@
 -- A command of each clause, with the sender's own key; and which commands are refused for their key.
 use Rattle.pr_interference.proofs.Common.{◌≡◌, ℕ, ◌<◌, Bool, true, false, not, ◌&&◌, ◌||◌, List, if◌then◌else◌, ◌==◌, Some, None, Option, sym, refl, ap, ◌∙◌, subst, false≢true, and_from, Command, Kind, Plain, is_kind, State, key_of, kind_of, IsKey, Held, request_looks, is_declared, is_action, AreDeclared, names, Action, number_in, purpose_of_preempt, purpose_of, Purpose, Register, Unregister, Reserve, Release, Clear, PreemptAll, Preempt, purpose_for, eq-eqb, eqb-true}
 use Rattle.std.proofs.Common.{◌^◌, lit<}
-use Rattle.std.proofs.lemmas.Bool.{or_parts}
 use Rattle.pr_cdb.specs.declared.command.Command.TheVariants as command
 use Rattle.pr_cdb.specs.Kinds.{code_of}
 use Rattle.pr_cdb.specs.Ranges.{Fits}
-use Rattle.pr_registry.specs.Changes.{conflicts_with_reserve}
-use Rattle.pr_registry.specs.Hosts.{has_no_registrant}
-use Rattle.pr_unit.specs.Conflicts.{lacks_key, command_conflicts}
+use Rattle.pr_unit.specs.Conduct.{command_conflicts}
+use Rattle.pr_unit.specs.Demands.{is_refused, is_in_range, registering}
 use Rattle.pr_roles.specs.declared.role.Action.TheVariants as action
 use Rattle.pr_script.specs.Grammar.{is_written_key}
-use Rattle.pr_regions.specs.declared.purpose.Purpose.TheVariants as purpose
-use Rattle.pr_regions.specs.declared.purpose.Purpose.TheVariants.{Look}
-use Rattle.pr_regions.specs.Purposes.{purpose_of_register, is_refused, is_in_range}
+use Rattle.pr_unit.specs.declared.demand.Demand.TheVariants as purpose
+use Rattle.pr_unit.specs.declared.demand.Demand.TheVariants.{Look}
 use Rattle.pr_interference.specs.inside.Clauses.{refuses_strangers}
-use Rattle.pr_interference.proofs.lemmas.Clauses.Commands.{declared_key, registers_key}
+use Rattle.pr_interference.proofs.lemmas.Clauses.Commands.{declared_key, registers_key, preempts_as}
+use Rattle.pr_unit.proofs.lemmas.Demands.{free_parts}
+use Rattle.pr_regions.specs.Purposes.{numbered}
 
 -- ---- refused commands
 
 -- what does not conflict is not refused
 pub not_refused : (u : State) (h : ℕ) (c : Command) → command_conflicts u h c ≡ false → is_refused (key_of u h) c ≡ false
-not_refused u h (command.Register rk sark) free = free
-not_refused u h (command.Reserve rk kind) free = (or_parts (lacks_key u h rk) (conflicts_with_reserve u h u.held kind) free).0
-not_refused u h (command.Release rk kind) free = free
-not_refused u h (command.Clear rk) free = free
-not_refused u h (command.Preempt rk sark kind) free = (or_parts (lacks_key u h rk) (not (sark == 0) && has_no_registrant u.keys sark) free).0
-not_refused u h (command.PreemptAbort rk sark kind) free = (or_parts (lacks_key u h rk) (not (sark == 0) && has_no_registrant u.keys sark) free).0
-not_refused u h _ free = refl
+not_refused u h c free = (free_parts u h c free).0
 
 -- a purpose that admits strangers
 admits : (p q : Purpose) → Some q ≡ Some p → refuses_strangers q ≡ false → refuses_strangers p ≡ true → false ≡ true
 admits p q same is refuses = let e : q ≡ p = cc in sym is ∙ ap refuses_strangers e ∙ refuses
 
-registering_admits : (keys : List ℕ) (sark : ℕ) → refuses_strangers (purpose_of_register keys sark) ≡ false
-registering_admits keys sark = at (sark == 0)
+registering_admits : (keys : List ℕ) (sark : ℕ) (p : Purpose) → numbered keys (registering sark) ≡ Some p → refuses_strangers p ≡ true → false ≡ true
+registering_admits keys sark p = at (sark == 0)
   where
-    at : (b : Bool) → refuses_strangers (if b then Unregister else Register (number_in keys sark)) ≡ false
-    at true = refl
-    at false = refl
+    at : (b : Bool) → numbered keys (if b then Unregister else Register sark) ≡ Some p → refuses_strangers p ≡ true → false ≡ true
+    at true is refuses = admits p Unregister is refl refuses
+    at false is refuses = admits p (Register (number_in keys sark)) is refl refuses
 
 pub strangers_refused : (keys : List ℕ) (c : Command) (p : Purpose) → purpose_of keys c ≡ Some p → refuses_strangers p ≡ true → is_refused None c ≡ true
 strangers_refused keys (command.Read lba blocks) p is refuses = admits p (purpose.Read (is_in_range lba blocks)) is refl refuses
 strangers_refused keys (command.Write lba blocks) p is refuses = admits p (purpose.Write (is_in_range lba blocks)) is refl refuses
-strangers_refused keys (command.Register rk sark) p is refuses = absurd (false≢true (admits p (purpose_of_register keys sark) is (registering_admits keys sark) refuses))
-strangers_refused keys (command.RegisterIgnore sark) p is refuses = absurd (false≢true (admits p (purpose_of_register keys sark) is (registering_admits keys sark) refuses))
+strangers_refused keys (command.Register rk sark) p is refuses = absurd (false≢true (registering_admits keys sark p is refuses))
+strangers_refused keys (command.RegisterIgnore sark) p is refuses = absurd (false≢true (registering_admits keys sark p is refuses))
 strangers_refused keys (command.Reserve rk kind) p is refuses = refl
 strangers_refused keys (command.Release rk kind) p is refuses = refl
 strangers_refused keys (command.Clear rk) p is refuses = refl
@@ -105,7 +98,7 @@ spells keys (action.Preempt key kind) held rk p declared fits own meant = record
   fits = (own.1, written_few keys key declared fits);
   acts = refl;
   named = and_from (key == key) (is_kind kind kind && true) (eq-eqb key key refl) (and_from (is_kind kind kind) true (eq-eqb (code_of kind) (code_of kind) refl) refl);
-  asked = meant;
+  asked = preempts_as keys key kind ∙ meant;
   accepted = ap not (eq-eqb rk rk refl);
 }
 spells keys action.Read held rk p declared fits own meant = let bad : None ≡ Some p = meant in cc

@@ -3,9 +3,8 @@ use Rattle.pr_interference.proofs.Common.{◌≡◌, ℕ, true, false, not, ◌&
 use Rattle.std.specs.FinSet as set
 use Rattle.std.proofs.Math.Bool.{and-false}
 use Rattle.pr_attention.specs.Attentions.{power_on, reservations_preempted, reservations_released, registrations_preempted}
-use Rattle.pr_registry.specs.Effects.{after, change}
+use Rattle.pr_unit.specs.UnitStates.{after, change, IsWellFormed, is_any_pending, pending_after, after_report}
 use Rattle.pr_unit.specs.Attentions.{Pairs}
-use Rattle.pr_unit.specs.UnitStates.{IsWellFormed, is_any_pending, pending_after, after_report}
 use Rattle.pr_unit.specs.Laws.{IsQuiet}
 use Rattle.pr_unit.proofs.lemmas.Attentions.Pairs.{contains-remove-pair}
 use Rattle.pr_unit.proofs.lemmas.Steps.WellFormedSteps.{well_formed-reported}

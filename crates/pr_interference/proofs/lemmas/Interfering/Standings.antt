@@ -1,15 +1,14 @@
 -- What a clause leads to under one reservation, by how its sender stands to what it asks for.
 use Rattle.pr_interference.proofs.Common.{◌≡◌, ℕ, zero, suc, ◌<◌, ◌≤◌, Bool, true, false, not, ◌||◌, List, length, if◌then◌else◌, Some, None, Option, sym, refl, ap, ◌∙◌, subst, arith, false≢true, and_parts, and_from, has, BitSet, Command, State, key_of, is_registered, IsKey, Held, UnitState, effect, is_action, AreDeclared, names, holds, Clause, has_at, view_in, Scope, Item, Registration, Reservation, IsSo, Shows, IsAt, purpose_of, Changes, Place, Purpose, Branch, Transition, same_reservation, few_keys, Onlooker, purpose_for, StandingLeads, IsWatched, Among, IsLedBy, IsLeftBy, ClauseLeaves, MOST_KEYS}
 use Rattle.std.proofs.Common.{is_some}
-use Rattle.pr_unit.specs.Conflicts.{command_conflicts}
-use Rattle.pr_unit.specs.Faults.{command_fault}
+use Rattle.pr_unit.specs.Conduct.{command_conflicts, command_fault}
+use Rattle.pr_unit.specs.Demands.{is_refused}
 use Rattle.pr_views.proofs.lemmas.Possibilities.Numbers.{key_there}
 use Rattle.pr_regions.specs.declared.region.Ending.{Ending}
 use Rattle.pr_regions.specs.declared.region.Ending.TheVariants as ending
 use Rattle.pr_regions.specs.declared.purpose.Standing.{Standing}
 use Rattle.pr_regions.specs.declared.purpose.Standing.TheVariants.{Unregistered, Named, Other}
 use Rattle.pr_regions.specs.Conditions.{holds_as}
-use Rattle.pr_regions.specs.Purposes.{is_refused}
 use Rattle.pr_regions.specs.Regions.{names as names_key, standing_of, Meets, Ends, AreBranches}
 use Rattle.pr_regions.specs.Gathering.{IsUniform}
 use Rattle.pr_regions.proofs.lemmas.Conditions.Senders.{holds_by}

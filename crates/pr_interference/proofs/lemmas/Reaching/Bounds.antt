@@ -8,7 +8,8 @@ use Rattle.std.proofs.Common.{option_map}
 use Rattle.pr_cdb.specs.declared.reply.Sense.{Sense}
 use Rattle.pr_cdb.specs.declared.codes.TheConstants.{INVALID_FIELD_IN_PARAMETER_LIST}
 use Rattle.pr_registry.specs.Registrations.{holds_alone}
-use Rattle.pr_unit.specs.Faults.{illegal}
+use Rattle.pr_unit.specs.Conduct.{illegal}
+use Rattle.pr_unit.specs.inside.Readiness.{IsReady}
 use Rattle.pr_roles.specs.declared.role.Action.TheVariants as action
 use Rattle.pr_roles.specs.declared.role.Condition.{Condition}
 use Rattle.pr_roles.specs.declared.role.Condition.TheVariants as condition
@@ -17,7 +18,7 @@ use Rattle.pr_views.specs.Views.{IsSeen}
 use Rattle.pr_views.proofs.lemmas.Possibilities.Numbers.{once_of, same_registration}
 use Rattle.pr_views.proofs.lemmas.Rooms.Places.{holds_at-get_or, holds_at_past}
 use Rattle.pr_regions.proofs.lemmas.Showing.Numbers.{AreDistinct}
-use Rattle.pr_regions.proofs.lemmas.Purposes.Conduct.{key_named, after_for, change_for, fault_for, IsNamed, IsOwned, asked}
+use Rattle.pr_regions.proofs.lemmas.Purposes.Conduct.{key_named, after_for, change_for, fault_for, keyed, IsNamed, asked}
 use Rattle.pr_regions.proofs.lemmas.Regions.ChangedStates.{then_in}
 use Rattle.pr_regions.specs.Conditions.{holds_as}
 use Rattle.pr_regions.proofs.lemmas.Conditions.Senders.{holds_by}
@@ -30,8 +31,8 @@ use Rattle.pr_interference.proofs.lemmas.Reaching.Effects.{register_within, unre
 
 record IsServed (s : Scope) (u w : UnitState) (from : ℕ) (p : Purpose) : Type 0 where
   named : IsNamed s.keys p
-  owned : IsOwned u.registry from p
-  whole : fault_for u.registry from p ≡ None
+  ready : IsReady u.registry from (keyed s.keys p)
+  whole : fault_for s.keys u.registry from p ≡ None
   after : w ≡ then_in u (after_for s.keys u.registry from p) (change_for s.keys u.registry from p)
 
 module _ (s : Scope) (o : Onlooker) (place : Place) (clause : Clause) (reach : Reach) (is : IsWatched s o place) (fits : is_action s.keys clause.action ≡ true) where
@@ -52,7 +53,7 @@ module _ (s : Scope) (o : Onlooker) (place : Place) (clause : Clause) (reach : R
       let known = asked s.keys u.registry place.sender led.purpose c has led.leads.asked (not_refused u.registry place.sender c led.leads.free.free) in
       subst (IsServed s u w place.sender) same (record {
         named = known.named;
-        owned = known.owned;
+        ready = known.ready;
         whole = sym known.faulty ∙ led.leads.free.whole;
         after = led.leads.after ∙ (λ i. then_in u (known.after i) (known.change i));
       })
@@ -130,7 +131,7 @@ module _ (s : Scope) (o : Onlooker) (place : Place) (clause : Clause) (reach : R
       let known = served u w (action.Preempt key t) (Preempt j t) led acts (ap (λ p. Some p) asks) in
       let named = known.named in
       within u w (Preempt j t) known
-      (preempt_key_within s place.sender reach u few is.other j k seen.0 t once named.0 named.1 (nonzero s.keys j k is.known.fits.scope.keys.each named.1) seen.1.1 known.owned
+      (preempt_key_within s place.sender reach u few is.other j k seen.0 t once named.0 named.1 (nonzero s.keys j k is.known.fits.scope.keys.each named.1) seen.1.1 known.ready.0
       (λ same. gives (mine same)) (λ all same go. ends (ap is_held_by_all (sym held) ∙ all) (mine same) (may_go go)) removes
       (λ old g holds has. here (takes old g (sym held ∙ holds) (holder named.0 named.1 g has)))
       (λ old g holds has. released old g (sym held ∙ holds) (holder named.0 named.1 g has)) removed)

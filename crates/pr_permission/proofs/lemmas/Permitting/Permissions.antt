@@ -11,12 +11,11 @@ use Rattle.pr_roles.specs.declared.role.Clause.{Clause}
 use Rattle.pr_roles.specs.declared.role.Condition.{Condition}
 use Rattle.pr_roles.specs.Permits.{names, holds, clause_permits}
 use Rattle.pr_views.proofs.lemmas.Possibilities.Numbers.{key_there, one_reservation}
-use Rattle.pr_regions.specs.declared.purpose.Purpose.{Purpose}
+use Rattle.pr_regions.specs.Purposes.{Purpose}
 use Rattle.pr_regions.specs.declared.purpose.Standing.{Standing}
 use Rattle.pr_regions.specs.declared.region.Ending.{Ending}
 use Rattle.pr_regions.specs.declared.region.Ending.TheVariants as ending
 use Rattle.pr_regions.specs.Conditions.{holds_as}
-use Rattle.pr_regions.specs.Purposes.{names_written}
 use Rattle.pr_regions.specs.Regions.{Ends, IsProper as IsProperBranch}
 use Rattle.pr_regions.specs.Gathering.{IsProper, IsGathered, IsThere}
 use Rattle.pr_domain.specs.inside.Tallies.{IsAsked}
@@ -27,20 +26,6 @@ use Rattle.pr_regions.proofs.lemmas.Portions.GatheredStates.{few_keys}
 use Rattle.pr_domain.proofs.lemmas.Tallies.Growth.{listed_there}
 use Rattle.pr_domain.proofs.lemmas.Tallies.ShownStates.{this_alone}
 use Rattle.pr_domain.proofs.lemmas.Tallies.Requests.{only_uniform, asked_right, asked_covers, asked_back, refused_conflicts}
-
--- ---- what a text can write
-
-pub written_typed : (keys : List ℕ) (c : Command) → is_written keys c ≡ true → IsTrue (is_some (purpose_of keys c))
-written_typed keys (command.Preempt rk sark None) is = (and_parts _ _ (and_parts (is_written_key keys rk) _ is).1).1
-written_typed keys (command.PreemptAbort rk sark None) is = (and_parts _ _ (and_parts (is_written_key keys rk) _ is).1).1
-written_typed keys _ is = refl
-
-pub written_names : (keys : List ℕ) (c : Command) → is_written keys c ≡ true → names_written keys c ≡ true
-written_names keys (command.Register rk sark) is = (and_parts (is_written_key keys rk) (is_written_key keys sark) is).1
-written_names keys (command.RegisterIgnore sark) is = is
-written_names keys (command.Preempt rk sark kind) is = (and_parts (is_written_key keys sark) (is_some kind) (and_parts (is_written_key keys rk) _ is).1).0
-written_names keys (command.PreemptAbort rk sark kind) is = (and_parts (is_written_key keys sark) (is_some kind) (and_parts (is_written_key keys rk) _ is).1).0
-written_names keys _ is = refl
 
 -- ---- branches
 

@@ -3,9 +3,8 @@ use Rattle.pr_regions.proofs.Common.{◌≡◌, ℕ, zero, suc, ◌<◌, ◌≤�
 use Rattle.std.proofs.Math.Bool.{not-not}
 use Rattle.pr_registry.specs.declared.change.Change.{Change as Told}
 use Rattle.pr_registry.specs.Registrations.{is_holder}
-use Rattle.pr_registry.specs.Effects.{after, change}
-use Rattle.pr_unit.specs.Conflicts.{command_conflicts}
-use Rattle.pr_unit.specs.Faults.{command_fault}
+use Rattle.pr_unit.specs.UnitStates.{after, change}
+use Rattle.pr_unit.specs.Conduct.{command_conflicts, command_fault}
 use Rattle.pr_views.specs.Possibilities.{count_of_reservations}
 use Rattle.pr_regions.specs.declared.purpose.Standing.TheVariants.{Named, Other}
 use Rattle.pr_regions.specs.Regions.{names, standing_of}
@@ -67,13 +66,13 @@ pub conflict_ends : (s : Scope) (p : Purpose) (held : Option Held) (sender : ℕ
 conflict_ends s p held sender standing u c has m conflicts = (asks s p held sender standing u c has m).conflicting ∙ conflicts
 
 pub fault_ends : (s : Scope) (p : Purpose) (held : Option Held) (sender : ℕ) (standing : Standing) (u : UnitState) (c : Command) (sense : Sense) → HasNumber p
-    → Meets s p held sender standing u c → conflicts_for s.keys u.registry sender p ≡ false → fault_for u.registry sender p ≡ Some sense → Ends s sender (Fault sense) u c
+    → Meets s p held sender standing u c → conflicts_for s.keys u.registry sender p ≡ false → fault_for s.keys u.registry sender p ≡ Some sense → Ends s sender (Fault sense) u c
 fault_ends s p held sender standing u c sense has m free faulty =
     let asked = asks s p held sender standing u c has m in (asked.conflicting ∙ free, asked.faulty ∙ faulty)
 
 pub good_ends : (s : Scope) (p : Purpose) (held : Option Held) (sender : ℕ) (standing : Standing) (u : UnitState) (c : Command)
     (to : Option ℕ) (out : ℕ → Bool) (left : ℕ) (t3 t4 t5 : ℕ → Bool) (b : Transition) → HasNumber p
-    → Meets s p held sender standing u c → conflicts_for s.keys u.registry sender p ≡ false → fault_for u.registry sender p ≡ None
+    → Meets s p held sender standing u c → conflicts_for s.keys u.registry sender p ≡ false → fault_for s.keys u.registry sender p ≡ None
     → Does b to out left t3 t4 t5
     → Becomes s.keys s.hosts sender to out left t3 t4 t5 u.registry (after_for s.keys u.registry sender p) (change_for s.keys u.registry sender p)
     → Ends s sender (Good b) u c
@@ -104,7 +103,7 @@ has_room hosts b to out left t3 t4 t5 does small below =
 
 -- the command changes nothing
 pub same_ends : (s : Scope) (p : Purpose) (held : Option Held) (sender : ℕ) (standing : Standing) (u : UnitState) (c : Command) (hosts : ℕ) (b : Transition) → HasNumber p
-    → Meets s p held sender standing u c → s.hosts ≡ hosts → conflicts_for s.keys u.registry sender p ≡ false → fault_for u.registry sender p ≡ None
+    → Meets s p held sender standing u c → s.hosts ≡ hosts → conflicts_for s.keys u.registry sender p ≡ false → fault_for s.keys u.registry sender p ≡ None
     → after_for s.keys u.registry sender p ≡ u.registry → change_for s.keys u.registry sender p ≡ no_change
     → Does b None never (number_of hosts held) never never never → Ends s sender (Good b) u c
 same_ends s p held sender standing u c hosts b has m alike free whole stays tells does =

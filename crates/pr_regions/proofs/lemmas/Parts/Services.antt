@@ -4,7 +4,7 @@ use Rattle.pr_cdb.specs.declared.codes.TheConstants.{INVALID_FIELD_IN_PARAMETER_
 use Rattle.pr_registry.specs.Registrations.{is_holder_of, is_for_registrants}
 use Rattle.pr_registry.specs.Changes.{is_held_as, conflicts_with_reserve, is_released}
 use Rattle.pr_registry.specs.Effects.{held_or, with_reservation, after_release}
-use Rattle.pr_unit.specs.Faults.{release_fault}
+use Rattle.pr_unit.specs.Conduct.{release_fault}
 use Rattle.pr_regions.proofs.lemmas.Purposes.Conduct.{key_named}
 use Rattle.pr_regions.proofs.lemmas.Regions.Effects.{still, on_register, on_release, on_clear}
 use Rattle.pr_regions.proofs.lemmas.Regions.PreemptCases.{in_case, on_preempt_all}

@@ -4,7 +4,7 @@ use Rattle.std.proofs.Math.Bool.{not-not}
 use Rattle.pr_cdb.specs.declared.command.Kind.TheVariants.{WriteExclusive, ExclusiveAccess, ExclusiveAccessRegistrantsOnly, ExclusiveAccessAllRegistrants}
 use Rattle.pr_cdb.specs.declared.codes.TheConstants.{LOGICAL_BLOCK_ADDRESS_OUT_OF_RANGE}
 use Rattle.pr_registry.specs.Registrations.{is_holder}
-use Rattle.pr_unit.specs.Conflicts.{access_conflicts, is_denied, read_access, write_access}
+use Rattle.pr_unit.specs.Conduct.{access_conflicts, is_denied, read_access, write_access}
 use Rattle.pr_regions.specs.inside.Parts.{keeps_from_reading, keeps_from_writing, is_kept_from}
 use Rattle.pr_regions.proofs.lemmas.Purposes.Conduct.{conflicts_for, fault_for, after_for, change_for}
 use Rattle.pr_regions.proofs.lemmas.Parts.Endings.{registered_or_not, is_holder-standing, conflict_ends, fault_ends, same_ends}
@@ -52,19 +52,19 @@ writes_conflict s p held sender standing u c m = ap (λ v. access_conflicts u.re
 pub record IsMove (p : Purpose) (kept in_range : Bool) (held : Option Held) (sender : ℕ) (standing : Standing) : Type 0 where
   numbered : HasNumber p
   conflicts : (s : Scope) (u : UnitState) (c : Command) → Meets s p held sender standing u c → conflicts_for s.keys u.registry sender p ≡ kept
-  faults : (u : State) → fault_for u sender p ≡ (if in_range then None else Some (illegal LOGICAL_BLOCK_ADDRESS_OUT_OF_RANGE 0))
+  faults : (keys : List ℕ) (u : State) → fault_for keys u sender p ≡ (if in_range then None else Some (illegal LOGICAL_BLOCK_ADDRESS_OUT_OF_RANGE 0))
   stays : (keys : List ℕ) (u : State) → after_for keys u sender p ≡ u
   tells : (keys : List ℕ) (u : State) → change_for keys u sender p ≡ no_change
 
 pub is_read : (kept in_range : Bool) (held : Option Held) (sender : ℕ) (standing : Standing) → kept ≡ is_kept_from keeps_from_reading held sender standing
     → IsMove (Read in_range) kept in_range held sender standing
 is_read kept in_range held sender standing is =
-    record { numbered = tt; conflicts = λ s u c m. reads_conflict s (Read in_range) held sender standing u c m ∙ sym is; faults = λ u. refl; stays = λ keys u. refl; tells = λ keys u. refl }
+    record { numbered = tt; conflicts = λ s u c m. reads_conflict s (Read in_range) held sender standing u c m ∙ sym is; faults = λ keys u. refl; stays = λ keys u. refl; tells = λ keys u. refl }
 
 pub is_write : (kept in_range : Bool) (held : Option Held) (sender : ℕ) (standing : Standing) → kept ≡ is_kept_from keeps_from_writing held sender standing
     → IsMove (Write in_range) kept in_range held sender standing
 is_write kept in_range held sender standing is =
-    record { numbered = tt; conflicts = λ s u c m. writes_conflict s (Write in_range) held sender standing u c m ∙ sym is; faults = λ u. refl; stays = λ keys u. refl; tells = λ keys u. refl }
+    record { numbered = tt; conflicts = λ s u c m. writes_conflict s (Write in_range) held sender standing u c m ∙ sym is; faults = λ keys u. refl; stays = λ keys u. refl; tells = λ keys u. refl }
 
 module _ (hosts : ℕ) (p : Purpose) (kept in_range : Bool) (held : Option Held) (sender : ℕ) (standing : Standing) (is : IsMove p kept in_range held sender standing) where
   abbrev faulty : Bool → Option Sense
@@ -75,7 +75,7 @@ module _ (hosts : ℕ) (p : Purpose) (kept in_range : Bool) (held : Option Held)
 
   pub move_fails : kept ≡ false → in_range ≡ false → AlwaysEnds hosts p held sender standing (Fault (illegal LOGICAL_BLOCK_ADDRESS_OUT_OF_RANGE 0))
   move_fails free beyond = record {
-    ends = λ s u c alike m. fault_ends s p held sender standing u c (illegal LOGICAL_BLOCK_ADDRESS_OUT_OF_RANGE 0) is.numbered m (is.conflicts s u c m ∙ free) (is.faults u.registry ∙ ap faulty beyond);
+    ends = λ s u c alike m. fault_ends s p held sender standing u c (illegal LOGICAL_BLOCK_ADDRESS_OUT_OF_RANGE 0) is.numbered m (is.conflicts s u c m ∙ free) (is.faults s.keys u.registry ∙ ap faulty beyond);
     fits = tt;
   }
 
@@ -83,6 +83,6 @@ module _ (hosts : ℕ) (p : Purpose) (kept in_range : Bool) (held : Option Held)
       → AlwaysEnds hosts p held sender standing (Good change)
   move_goes change free within does room = record {
     ends = λ s u c alike m.
-        same_ends s p held sender standing u c hosts change is.numbered m alike (is.conflicts s u c m ∙ free) (is.faults u.registry ∙ ap faulty within) (is.stays s.keys u.registry) (is.tells s.keys u.registry) does;
+        same_ends s p held sender standing u c hosts change is.numbered m alike (is.conflicts s u c m ∙ free) (is.faults s.keys u.registry ∙ ap faulty within) (is.stays s.keys u.registry) (is.tells s.keys u.registry) does;
     fits = room;
   }

@@ -79,7 +79,7 @@ keys_of s j t held sender standing u c has m =
       named = asked.named.1;
       nonzero = not_zero s.keys j (key_named s.keys j) m.scope.keys.each asked.named.1;
       own = own_number s j t held sender standing u c has.0 m;
-      there = asked.owned;
+      there = asked.ready.0;
     }
 
 -- whoever has its number has the key, and nobody else

@@ -8,7 +8,7 @@ use Rattle.std.proofs.Common.{flat_map, le-leb}
 use Rattle.pr_cdb.specs.declared.codes.TheConstants.{NO_SENSE, NO_ADDITIONAL_SENSE_INFORMATION, REQUEST_SENSE, INQUIRY, PERSISTENT_RESERVE_IN, PERSISTENT_RESERVE_OUT, REPORT_LUNS, REPORT_CAPABILITIES, REGISTER_AND_IGNORE_EXISTING_KEY, DESC, INVALID_FIELD_IN_CDB, INVALID_FIELD_IN_PARAMETER_LIST, INVALID_RELEASE_OF_PERSISTENT_RESERVATION, LOGICAL_BLOCK_ADDRESS_OUT_OF_RANGE, PARAMETER_LIST_LENGTH, FIXED_SENSE_LENGTH}
 use Rattle.pr_cdb.specs.declared.command.Kind.{Kind}
 use Rattle.pr_cdb.specs.declared.command.Command.{Command}
-use Rattle.pr_cdb.specs.declared.command.Command.TheVariants.{TestUnitReady, RequestSense, Read, Write, ReadKeys, ReadReservation, ReportCapabilities, Register, RegisterIgnore, Reserve, Release, Clear, Preempt, PreemptAbort}
+use Rattle.pr_cdb.specs.declared.command.Command.TheVariants.{RequestSense, ReadKeys, ReadReservation, ReportCapabilities}
 use Rattle.pr_cdb.specs.declared.reply.Reply.{Reply}
 use Rattle.pr_cdb.specs.declared.reply.Sense.{Sense}
 use Rattle.pr_cdb.specs.declared.reply.Status.TheVariants.{CheckCondition}
@@ -25,9 +25,11 @@ use Rattle.pr_attention.specs.Attentions.{power_on, attention_sense, is_attentio
 use Rattle.pr_attention.proofs.lemmas.FourCodes.{which}
 use Rattle.pr_registry.specs.Registrations.{State, IsWellFormed}
 use Rattle.pr_registry.proofs.lemmas.Contents.{few_keys, length-keys_bytes}
-use Rattle.pr_unit.specs.Conflicts.{conflicts}
+use Rattle.pr_unit.specs.Conduct.{conflicts, fault, command_fault, conduct, preempt_fault, range_fault, illegal as illegal_request}
 use Rattle.pr_unit.specs.UnitStates.{UnitState, IsWellFormed as IsWellFormedUnit, is_any_pending, is_pending}
-use Rattle.pr_unit.specs.Faults.{fault, command_fault, preempt_fault, range_fault, illegal as illegal_request}
+use Rattle.pr_registry.specs.Changes.{preempt_case, is_replacing}
+use Rattle.pr_unit.specs.declared.demand.Demand.TheVariants as demand
+use Rattle.pr_unit.specs.Demands.{Asked, demand_of}
 use Rattle.pr_unit.specs.Replies.{good, check, conflict, busy, full, report, is_request_sense, reservation, data_of}
 use Rattle.pr_unit.specs.Steps.{IsDone, Step}
 use Rattle.pr_roles.specs.declared.limits.TheConstants.{MOST_DECLARED_1, MOST_DECLARED_2}
@@ -104,16 +106,7 @@ done_data version u (ReadReservation alloc) formed few =
     let held = held_are u.generation (reservation u.keys u.held) in
     cut_data (most_data version) alloc (reservation_bytes u.generation (reservation u.keys u.held)) held.0 (omega (arith, held.1, room version))
 done_data version u (ReportCapabilities alloc) formed few = cut_data (most_data version) alloc capabilities_bytes capabilities.0 (omega (arith, capabilities.1, room version))
-done_data version u TestUnitReady formed few = no_data version
-done_data version u (Read lba blocks) formed few = no_data version
-done_data version u (Write lba blocks) formed few = no_data version
-done_data version u (Register rk sark) formed few = no_data version
-done_data version u (RegisterIgnore sark) formed few = no_data version
-done_data version u (Reserve rk kind) formed few = no_data version
-done_data version u (Release rk kind) formed few = no_data version
-done_data version u (Clear rk) formed few = no_data version
-done_data version u (Preempt rk sark kind) formed few = no_data version
-done_data version u (PreemptAbort rk sark kind) formed few = no_data version
+done_data version u _ formed few = no_data version
 
 -- ---- senses
 
@@ -162,28 +155,22 @@ no_fault = record { senses = tt }
 a_fault : (asc ascq : ℕ) → asc < 256 → ascq < 256 → Faults (Some (illegal_request asc ascq))
 a_fault asc ascq small also = record { senses = record { key = omega arith; asc = small; ascq = also } }
 
-preempt_faults : (u : State) (sark : ℕ) (kind : Option Kind) → Faults (preempt_fault u sark kind)
-preempt_faults u sark kind =
-    one_of _ (a_fault INVALID_FIELD_IN_PARAMETER_LIST 0 (omega arith) (omega arith)) (one_of _ (a_fault INVALID_FIELD_IN_CDB 0 (omega arith) (omega arith)) no_fault)
+preempt_faults : (kind : Option Kind) (replaces : Bool) → Faults (preempt_fault kind replaces)
+preempt_faults kind replaces = one_of _ (a_fault INVALID_FIELD_IN_CDB 0 (omega arith) (omega arith)) no_fault
 
-range_faults : (lba blocks : ℕ) → Faults (range_fault lba blocks)
-range_faults lba blocks = one_of _ (a_fault LOGICAL_BLOCK_ADDRESS_OUT_OF_RANGE 0 (omega arith) (omega arith)) no_fault
+range_faults : (in_range : Bool) → Faults (range_fault in_range)
+range_faults in_range = one_of _ no_fault (a_fault LOGICAL_BLOCK_ADDRESS_OUT_OF_RANGE 0 (omega arith) (omega arith))
+
+faults_by : (u : State) (h : ℕ) (o : Asked) → Faults (conduct u h o).fault
+faults_by u h (demand.Read in_range) = range_faults in_range
+faults_by u h (demand.Write in_range) = range_faults in_range
+faults_by u h (demand.Release kind) = one_of _ (a_fault INVALID_FIELD_IN_PARAMETER_LIST INVALID_RELEASE_OF_PERSISTENT_RESERVATION (omega arith) (omega arith)) no_fault
+faults_by u h (demand.PreemptAll kind) = one_of _ (a_fault INVALID_FIELD_IN_PARAMETER_LIST 0 (omega arith) (omega arith)) (preempt_faults kind true)
+faults_by u h (demand.Preempt key kind) = preempt_faults kind (is_replacing (preempt_case u.keys u.held key))
+faults_by u h _ = no_fault
 
 command_faults : (u : State) (h : ℕ) (c : Command) → Faults (command_fault u h c)
-command_faults u h TestUnitReady = no_fault
-command_faults u h RequestSense = no_fault
-command_faults u h (Read lba blocks) = range_faults lba blocks
-command_faults u h (Write lba blocks) = range_faults lba blocks
-command_faults u h (ReadKeys alloc) = no_fault
-command_faults u h (ReadReservation alloc) = no_fault
-command_faults u h (ReportCapabilities alloc) = no_fault
-command_faults u h (Register rk sark) = no_fault
-command_faults u h (RegisterIgnore sark) = no_fault
-command_faults u h (Reserve rk kind) = no_fault
-command_faults u h (Release rk kind) = one_of _ (a_fault INVALID_FIELD_IN_PARAMETER_LIST INVALID_RELEASE_OF_PERSISTENT_RESERVATION (omega arith) (omega arith)) no_fault
-command_faults u h (Clear rk) = no_fault
-command_faults u h (Preempt rk sark kind) = preempt_faults u sark kind
-command_faults u h (PreemptAbort rk sark kind) = preempt_faults u sark kind
+command_faults u h c = faults_by u h (demand_of c)
 
 -- ---- what bytes are read as
 

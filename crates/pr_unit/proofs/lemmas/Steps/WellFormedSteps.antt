@@ -3,8 +3,7 @@ use Rattle.pr_unit.proofs.Common.{◌≡◌, ℕ, ◌<◌, Bool, true, false, no
 use Rattle.std.specs.Prelude.{Ok}
 use Rattle.std.specs.FinSet as set
 use Rattle.pr_cdb.specs.Ranges.{FitsWhereRead}
-use Rattle.pr_unit.specs.Conflicts.{conflicts}
-use Rattle.pr_unit.specs.Faults.{fault}
+use Rattle.pr_unit.specs.Conduct.{conflicts, fault}
 use Rattle.pr_unit.specs.Follows.{IsFollowed}
 use Rattle.pr_unit.proofs.lemmas.Attentions.Pairs.{contains-remove-pair}
 use Rattle.pr_unit.proofs.lemmas.UnitStates.Effects.{effects_are_well_formed, hosts-after}

@@ -1,80 +1,84 @@
 -- A command without conflict and fault leaves a well formed state well formed.
-use Rattle.pr_unit.proofs.Common.{◌≡◌, ℕ, ◌<◌, Bool, true, false, not, ◌&&◌, ◌||◌, if◌then◌else◌, IsTrue, ◌==◌, Some, None, Option, sym, refl, ◌∙◌, subst, arith, false≢true, nat_tests, MOST_NEXUSES, Command, Register, Reserve, Release, Clear, Preempt, reservations_preempted, reservations_released, registrations_preempted, Pairs, each_with, command_fault, UnitState, IsWellFormed, and_parts}
-use Rattle.std.proofs.Common.{◌^◌, is_some, is_none}
+use Rattle.pr_unit.proofs.Common.{◌≡◌, ℕ, ◌<◌, Bool, true, false, not, ◌||◌, if◌then◌else◌, IsTrue, ◌==◌, Some, None, Option, sym, refl, ◌∙◌, subst, arith, false≢true, nat_tests, MOST_NEXUSES, Command, reservations_preempted, reservations_released, registrations_preempted, Pairs, each_with, UnitState, IsWellFormed, and_parts}
+use Rattle.std.proofs.Common.{is_some}
 use Rattle.std.specs.FinSet as set
-use Rattle.std.proofs.lemmas.Bool.{or_parts}
+use Rattle.pr_cdb.specs.declared.codes.TheConstants.{INVALID_FIELD_IN_CDB, INVALID_FIELD_IN_PARAMETER_LIST}
 use Rattle.pr_cdb.specs.declared.command.Kind.{Kind}
-use Rattle.pr_cdb.specs.declared.command.Command.TheVariants.{RegisterIgnore, PreemptAbort}
 use Rattle.pr_cdb.specs.Ranges.{Fits}
 use Rattle.pr_registry.specs.declared.change.Change.{Change}
-use Rattle.pr_registry.specs.Hosts.{Hosts, is_key, has_no_registrant}
-use Rattle.pr_registry.specs.Registrations.{State, key_of, is_registered, IsKey, IsWellFormed as IsWellFormedRegistry}
-use Rattle.pr_registry.specs.Changes.{Case, RemovesKey, conflicts_with_reserve, is_held_by_all, preempt_case, is_replacing, HasKindIfReplacing}
-use Rattle.pr_registry.specs.Effects.{after, after_register, change, with_registration, without_registration}
+use Rattle.pr_registry.specs.declared.held.Held.{Held}
+use Rattle.pr_registry.specs.declared.held.Held.TheVariants.{One, All}
+use Rattle.pr_registry.specs.Hosts.{Hosts}
+use Rattle.pr_registry.specs.Registrations.{State, key_of, is_registered, IsWellFormed as IsWellFormedRegistry}
+use Rattle.pr_registry.specs.Changes.{Case, ReplacesAll, ReplacesHolder, RemovesKey, no_change, is_held_by_all, preempt_case, is_replacing, HasKindIfReplacing, change_on_unregister}
+use Rattle.pr_registry.specs.Effects.{without_registration}
 use Rattle.pr_registry.proofs.lemmas.States.{well_formed-registered, well_formed-unregistered, well_formed-reserved, well_formed-released, well_formed-cleared, well_formed-preempted}
-use Rattle.pr_registry.proofs.lemmas.ToldRegistrants.{AreRegistered, tells_registrants}
+use Rattle.pr_registry.proofs.lemmas.ToldRegistrants.{AreRegistered, TellsRegistrants, tells_nobody, tells_on_unregister, tells_on_release, tells_on_clear, tells_on_preempt}
+use Rattle.pr_unit.specs.declared.demand.Demand.TheVariants.{Look, Read, Write, Register, Unregister, Reserve, Release, Clear, PreemptAll, Preempt}
 use Rattle.pr_unit.specs.Attentions.{is_attention}
-use Rattle.pr_unit.specs.UnitStates.{pending_after}
-use Rattle.pr_unit.specs.Conflicts.{lacks_key, command_conflicts}
-use Rattle.pr_unit.specs.Faults.{illegal, preempt_fault}
+use Rattle.pr_unit.specs.Demands.{Asked, demand_of}
+use Rattle.pr_unit.specs.Conduct.{illegal, preempt_fault, preempt_all_fault, conduct}
+use Rattle.pr_unit.specs.UnitStates.{after, change, pending_after}
 use Rattle.pr_unit.specs.Laws.{EffectsAreWellFormed}
+use Rattle.pr_unit.specs.inside.Readiness.{IsReady}
 use Rattle.pr_unit.specs.inside.Told.{AreBelow, TellsBelow}
 use Rattle.pr_unit.proofs.lemmas.Attentions.Pairs.{contains-union-pairs, contains-each_with}
-
--- who has the key is registered
-registered_by_key : (u : State) (h rk : ℕ) → lacks_key u h rk ≡ false → IsTrue (is_registered u h)
-registered_by_key u h rk has = at (key_of u h) has
-  where
-    at : (o : Option ℕ) → not (is_key o rk) ≡ false → IsTrue (is_some o)
-    at None is = absurd (false≢true (sym is))
-    at (Some k) is = refl
+use Rattle.pr_unit.proofs.lemmas.Demands.{IsBounded, free_parts, ready, bounded}
 
 -- a PREEMPT without a fault has a type where it replaces
-has_kind : (u : State) (sark : ℕ) (kind : Option Kind) → preempt_fault u sark kind ≡ None → HasKindIfReplacing kind (preempt_case u.keys u.held sark)
-has_kind u sark kind none = at (sark == 0 && not (is_held_by_all u.held)) kind (preempt_case u.keys u.held sark) none
-  where
-    at : (b : Bool) (kind : Option Kind) (case : Case) → (if b then Some (illegal 0x26 0x00) else (if is_none kind && is_replacing case then Some (illegal 0x24 0x00) else None)) ≡ None
-        → HasKindIfReplacing kind case
-    at true kind case is = let bad : Some (illegal 0x26 0x00) ≡ None = is in cc
-    at false (Some t) case is = λ _. refl
-    at false None RemovesKey is = λ replaces. absurd (false≢true replaces)
-    at false None _ is = let bad : Some (illegal 0x24 0x00) ≡ None = is in cc
+has_kind : (kind : Option Kind) (case : Case) → preempt_fault kind (is_replacing case) ≡ None → HasKindIfReplacing kind case
+has_kind (Some t) case none = λ _. refl
+has_kind None RemovesKey none = λ replaces. absurd (false≢true replaces)
+has_kind None ReplacesAll none = let bad : Some (illegal INVALID_FIELD_IN_CDB 0) ≡ None = none in cc
+has_kind None (ReplacesHolder t) none = let bad : Some (illegal INVALID_FIELD_IN_CDB 0) ≡ None = none in cc
 
-well_formed-after_register : (u : State) (h key : ℕ) → IsWellFormedRegistry u → h < u.hosts → key < 2 ^ 64 → IsWellFormedRegistry (after_register u h key)
-well_formed-after_register u h key w there fits = at (key == 0) (is_registered u h) refl
+-- of the key zero it replaces the reservation of all registrants
+pub has_kind-all : (u : State) (kind : Option Kind) → preempt_all_fault u kind ≡ None → HasKindIfReplacing kind (preempt_case u.keys u.held 0)
+has_kind-all u kind none = at u.held none
   where
-    at : (b c : Bool) → (key == 0) ≡ b → IsWellFormedRegistry (if b then (if c then without_registration u h else u) else with_registration u h key)
-    at true true is = well_formed-unregistered u h w
-    at true false is = w
-    at false c is = let key_is : IsKey key = (grind (arith, nat_tests), fits) in well_formed-registered u h key w there key_is
+    at : (held : Option Held) → (if not (is_held_by_all held) then Some (illegal INVALID_FIELD_IN_PARAMETER_LIST 0) else preempt_fault kind true) ≡ None → HasKindIfReplacing kind (preempt_case u.keys held 0)
+    at (Some (All t)) none = has_kind kind ReplacesAll none
+    at None none = let bad : Some (illegal INVALID_FIELD_IN_PARAMETER_LIST 0) ≡ None = none in cc
+    at (Some (One t g)) none = let bad : Some (illegal INVALID_FIELD_IN_PARAMETER_LIST 0) ≡ None = none in cc
 
-well_formed-after : (u : State) (h : ℕ) (c : Command) → IsWellFormedRegistry u → h < u.hosts → Fits c → command_conflicts u h c ≡ false → command_fault u h c ≡ None
-    → IsWellFormedRegistry (after u h c)
-well_formed-after u h (Register rk sark) w there fits free whole = well_formed-after_register u h sark w there fits.1
-well_formed-after u h (RegisterIgnore sark) w there fits free whole = well_formed-after_register u h sark w there fits
-well_formed-after u h (Reserve rk kind) w there fits free whole =
-    well_formed-reserved u h kind w (registered_by_key u h rk (or_parts (lacks_key u h rk) (conflicts_with_reserve u h u.held kind) free).0)
-well_formed-after u h (Release rk kind) w there fits free whole = well_formed-released u h kind w
-well_formed-after u h (Clear rk) w there fits free whole = well_formed-cleared u w
-well_formed-after u h (Preempt rk sark kind) w there fits free whole =
-    well_formed-preempted u h sark kind w (registered_by_key u h rk (or_parts (lacks_key u h rk) (not (sark == 0) && has_no_registrant u.keys sark) free).0) (has_kind u sark kind whole)
-well_formed-after u h (PreemptAbort rk sark kind) w there fits free whole =
-    well_formed-preempted u h sark kind w (registered_by_key u h rk (or_parts (lacks_key u h rk) (not (sark == 0) && has_no_registrant u.keys sark) free).0) (has_kind u sark kind whole)
-well_formed-after u h _ w there fits free whole = w
+well_formed-unregister : (u : State) (h : ℕ) (there : Bool) → IsWellFormedRegistry u → IsWellFormedRegistry (if there then without_registration u h else u)
+well_formed-unregister u h true w = well_formed-unregistered u h w
+well_formed-unregister u h false w = w
+
+well_formed-after : (u : State) (h : ℕ) (o : Asked) → IsWellFormedRegistry u → h < u.hosts → IsReady u h o → IsBounded o → (conduct u h o).fault ≡ None → IsWellFormedRegistry (conduct u h o).after
+well_formed-after u h (Register key) w there ready small whole = well_formed-registered u h key w there (ready, small)
+well_formed-after u h Unregister w there ready small whole = well_formed-unregister u h (is_registered u h) w
+well_formed-after u h (Reserve kind) w there ready small whole = well_formed-reserved u h kind w ready
+well_formed-after u h (Release kind) w there ready small whole = well_formed-released u h kind w
+well_formed-after u h Clear w there ready small whole = well_formed-cleared u w
+well_formed-after u h (PreemptAll kind) w there ready small whole = well_formed-preempted u h 0 kind w ready (has_kind-all u kind whole)
+well_formed-after u h (Preempt key kind) w there ready small whole = well_formed-preempted u h key kind w ready.0 (has_kind kind (preempt_case u.keys u.held key) whole)
+well_formed-after u h _ w there ready small whole = w
 
 -- no command changes how many hosts there are
-hosts-after_register : (u : State) (h key : ℕ) → (after_register u h key).hosts ≡ u.hosts
-hosts-after_register u h key = at (key == 0) (is_registered u h)
-  where
-    at : (b c : Bool) → (if b then (if c then without_registration u h else u) else with_registration u h key).hosts ≡ u.hosts
-    at true true = refl
-    at true false = refl
-    at false c = refl
+hosts-unregister : (u : State) (h : ℕ) (there : Bool) → (if there then without_registration u h else u).hosts ≡ u.hosts
+hosts-unregister u h true = refl
+hosts-unregister u h false = refl
+
+hosts-by : (u : State) (h : ℕ) (o : Asked) → (conduct u h o).after.hosts ≡ u.hosts
+hosts-by u h Unregister = hosts-unregister u h (is_registered u h)
+hosts-by u h _ = refl
 
 pub hosts-after : (u : State) (h : ℕ) (c : Command) → (after u h c).hosts ≡ u.hosts
-hosts-after u h (Register rk sark) = hosts-after_register u h sark
-hosts-after u h (RegisterIgnore sark) = hosts-after_register u h sark
-hosts-after u h _ = refl
+hosts-after u h c = hosts-by u h (demand_of c)
+
+-- only registrants are told
+tells_unregister : (u : State) (h : ℕ) (there : Bool) → TellsRegistrants u (if there then change_on_unregister u h else no_change)
+tells_unregister u h true = tells_on_unregister u h
+tells_unregister u h false = tells_nobody u
+
+tells_registrants : (u : State) (h : ℕ) (o : Asked) → TellsRegistrants u (conduct u h o).change
+tells_registrants u h Unregister = tells_unregister u h (is_registered u h)
+tells_registrants u h (Release kind) = tells_on_release u h kind
+tells_registrants u h Clear = tells_on_clear u h
+tells_registrants u h (PreemptAll kind) = tells_on_preempt u h 0 kind
+tells_registrants u h (Preempt key kind) = tells_on_preempt u h key kind
+tells_registrants u h _ = tells_nobody u
 
 -- a registrant is a host that is there
 in_range : (u : State) (q : ℕ) → IsWellFormedRegistry u → is_registered u q ≡ true → q < u.hosts
@@ -120,9 +124,9 @@ told_is_of_host u c q code w t3 t4 t5 is =
 
 pub effects_are_well_formed : EffectsAreWellFormed
 effects_are_well_formed u h c w there fits free whole =
-    let tells = tells_registrants u.registry h c in
+    let tells = tells_registrants u.registry h (demand_of c) in
     record {
-      registry = well_formed-after u.registry h c w.registry there fits free whole;
+      registry = well_formed-after u.registry h (demand_of c) w.registry there (ready u.registry h c (free_parts u.registry h c free).0) (bounded c fits) whole;
       pending = λ q code is. let of_host = told_is_of_host u (change u.registry h c) q code w tells.told_03 tells.told_04 tells.told_05 is in
           (rw (hosts-after u.registry h c) of_host.0, of_host.1);
     }
@@ -130,7 +134,7 @@ effects_are_well_formed u h c w there fits free whole =
 -- a command tells hosts that have a place
 pub tells_below : (u : State) (h : ℕ) (c : Command) → IsWellFormedRegistry u → TellsBelow MOST_NEXUSES (change u h c)
 tells_below u h c w =
-    let tells = tells_registrants u h c in
+    let tells = tells_registrants u h (demand_of c) in
     let c = change u h c in
     record { told_03 = below c.told_03 tells.told_03; told_04 = below c.told_04 tells.told_04; told_05 = below c.told_05 tells.told_05 }
   where

@@ -7,8 +7,7 @@ use Rattle.pr_cdb.specs.declared.wire.Request.{Request}
 use Rattle.pr_cdb.specs.Ranges.{FitsWhereRead}
 use Rattle.pr_unit.specs.Attentions.{power_on}
 use Rattle.pr_unit.specs.UnitStates.{is_pending, after_report, is_any_pending}
-use Rattle.pr_unit.specs.Conflicts.{conflicts}
-use Rattle.pr_unit.specs.Faults.{fault}
+use Rattle.pr_unit.specs.Conduct.{conflicts, fault}
 use Rattle.pr_unit.specs.Replies.{is_good, report}
 use Rattle.pr_unit.proofs.lemmas.TakenSteps.Determinism.{good_by_decision}
 use Rattle.pr_roles.specs.declared.role.Clause.{Clause}

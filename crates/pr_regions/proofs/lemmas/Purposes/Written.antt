@@ -1,0 +1,43 @@
+-- What a text can write has a purpose, and names declared keys alone.
+use Rattle.pr_regions.proofs.Common.{◌≡◌, ℕ, Bool, true, ◌||◌, List, is_some, if◌then◌else◌, IsTrue, ◌==◌, Some, None, Option, refl, false, false≢true, Command, Kind, Register, Unregister, PreemptAll, Preempt}
+use Rattle.std.specs.Option.{option_map_or}
+use Rattle.std.proofs.lemmas.Bool.{and_parts}
+use Rattle.pr_cdb.specs.declared.command.Command.TheVariants as command
+use Rattle.pr_script.specs.Grammar.{is_declared, is_written_key, is_written}
+use Rattle.pr_regions.specs.Purposes.{numbered, purpose_of, named, names_declared}
+
+-- ---- a purpose
+
+registers_typed : (keys : List ℕ) (sark : ℕ) (zero : Bool) → IsTrue (is_some (numbered keys (if zero then Unregister else Register sark)))
+registers_typed keys sark true = refl
+registers_typed keys sark false = refl
+
+preempts_typed : (keys : List ℕ) (sark : ℕ) (t : Kind) (zero : Bool) → IsTrue (is_some (numbered keys (if zero then PreemptAll (Some t) else Preempt sark (Some t))))
+preempts_typed keys sark t true = refl
+preempts_typed keys sark t false = refl
+
+pub written_typed : (keys : List ℕ) (c : Command) → is_written keys c ≡ true → IsTrue (is_some (purpose_of keys c))
+written_typed keys (command.Register rk sark) is = registers_typed keys sark (sark == 0)
+written_typed keys (command.RegisterIgnore sark) is = registers_typed keys sark (sark == 0)
+written_typed keys (command.Preempt rk sark (Some t)) is = preempts_typed keys sark t (sark == 0)
+written_typed keys (command.PreemptAbort rk sark (Some t)) is = preempts_typed keys sark t (sark == 0)
+written_typed keys (command.Preempt rk sark None) is = absurd (false≢true (and_parts _ _ (and_parts (is_written_key keys rk) _ is).1).1)
+written_typed keys (command.PreemptAbort rk sark None) is = absurd (false≢true (and_parts _ _ (and_parts (is_written_key keys rk) _ is).1).1)
+written_typed keys _ is = refl
+
+-- ---- declared keys
+
+registers_declared : (keys : List ℕ) (sark : ℕ) (zero : Bool) → (zero || is_declared keys sark) ≡ true → option_map_or (is_declared keys) (named {T = Option Kind} (if zero then Unregister else Register sark)) true ≡ true
+registers_declared keys sark true is = refl
+registers_declared keys sark false is = is
+
+preempts_declared : (keys : List ℕ) (sark : ℕ) (kind : Option Kind) (zero : Bool) → (zero || is_declared keys sark) ≡ true → option_map_or (is_declared keys) (named (if zero then PreemptAll kind else Preempt sark kind)) true ≡ true
+preempts_declared keys sark kind true is = refl
+preempts_declared keys sark kind false is = is
+
+pub written_declared : (keys : List ℕ) (c : Command) → is_written keys c ≡ true → names_declared keys c ≡ true
+written_declared keys (command.Register rk sark) is = registers_declared keys sark (sark == 0) (and_parts (is_written_key keys rk) (is_written_key keys sark) is).1
+written_declared keys (command.RegisterIgnore sark) is = registers_declared keys sark (sark == 0) is
+written_declared keys (command.Preempt rk sark kind) is = preempts_declared keys sark kind (sark == 0) (and_parts (is_written_key keys sark) (is_some kind) (and_parts (is_written_key keys rk) _ is).1).0
+written_declared keys (command.PreemptAbort rk sark kind) is = preempts_declared keys sark kind (sark == 0) (and_parts (is_written_key keys sark) (is_some kind) (and_parts (is_written_key keys rk) _ is).1).0
+written_declared keys _ is = refl
