@@ -45,8 +45,8 @@ has_refused_flag action flags =
 abbrev pub reserve_in : ℕ → ℕ → Option Command
 reserve_in action alloc =
     if action == READ_KEYS then Some (ReadKeys alloc) else (
-    if action == READ_RESERVATION then Some (ReadReservation alloc) else
-    Some (ReportCapabilities alloc))
+    if action == READ_RESERVATION then Some (ReadReservation alloc) else (
+    if action == REPORT_CAPABILITIES then Some (ReportCapabilities alloc) else None))
 
 -- the service action of PERSISTENT RESERVE OUT, over its type and its two keys. RESERVE and RELEASE need
 -- a type.
@@ -57,8 +57,8 @@ reserve_out action kind rk sark =
     if action == RELEASE then option_map (λ k. Release rk k) kind else (
     if action == CLEAR then Some (Clear rk) else (
     if action == PREEMPT then Some (Preempt rk sark kind) else (
-    if action == PREEMPT_AND_ABORT then Some (PreemptAbort rk sark kind) else
-    Some (RegisterIgnore sark))))))
+    if action == PREEMPT_AND_ABORT then Some (PreemptAbort rk sark kind) else (
+    if action == REGISTER_AND_IGNORE_EXISTING_KEY then Some (RegisterIgnore sark) else None))))))
 
 -- the command of the named fields. All other bits, the control byte among them, are ignored.
 unfoldable pub named_command : List ℕ → List ℕ → Option Command
@@ -79,7 +79,6 @@ request_of cdb params =
     let opcode = slice_index cdb 0 in
     let action = slice_index cdb 1 % 32 in
     let is_sense = opcode == REQUEST_SENSE in
-    let is_in = opcode == PERSISTENT_RESERVE_IN in
     let is_out = opcode == PERSISTENT_RESERVE_OUT in
     if length cdb == 0 then Err Short else (
     if opcode == INQUIRY || opcode == REPORT_LUNS then Err (NotModelled opcode) else (
@@ -87,7 +86,7 @@ request_of cdb params =
     if nat_lt (length cdb) (length_of opcode) then Err Short else (
     if is_sense && has_flag (slice_index cdb 1) DESC then illegal INVALID_FIELD_IN_CDB else (
     if is_sense && nat_lt (slice_index cdb 4) FIXED_SENSE_LENGTH then Err (NotModelled opcode) else (
-    if (is_in && nat_lt REPORT_CAPABILITIES action) || (is_out && nat_lt REGISTER_AND_IGNORE_EXISTING_KEY action) then illegal INVALID_FIELD_IN_CDB else (
+    if is_out && nat_lt REGISTER_AND_IGNORE_EXISTING_KEY action then illegal INVALID_FIELD_IN_CDB else (
     if is_out && not (be32 cdb 5 == PARAMETER_LIST_LENGTH) then illegal PARAMETER_LIST_LENGTH_ERROR else (
     if is_out && nat_lt (length params) PARAMETER_LIST_LENGTH then Err Short else (
     if is_none (named_command cdb params) then illegal INVALID_FIELD_IN_CDB else (

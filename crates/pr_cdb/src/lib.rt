@@ -23,7 +23,7 @@ pub use laws::{
     in_range, lengths_agree, operation_codes_agree, sense_codes_agree, service_actions_agree,
 };
 pub use parameter_data::{capabilities, holder_of, keys_data, keys_of, reservation_data};
-pub use reading::{decode, reads_in_range};
+pub use reading::{decode, reads_in_range, service_action_in, service_action_out};
 pub use reply::{Reply, Sense, Status};
 pub use sense_data::{decode_sense, encode_sense};
 pub use wire::{Bad, Request, Wire, copied};

@@ -1,9 +1,9 @@
 //! Reading a command's bytes.
 
-ghost use Rattle.std.specs.Prelude.{◌≡◌, ◌+◌, ◌≤◌, ◌≢◌, List, ℕ, length, slice_index};
+ghost use Rattle.std.specs.Prelude.{◌≡◌, ◌+◌, ◌%◌, ◌≤◌, ◌≢◌, List, ℕ, length, slice_index};
 ghost use Rattle.pr_cdb.specs.Kinds.{kind_of_code};
 ghost use Rattle.pr_cdb.specs.Bytes.{be16, be32, be64};
-ghost use Rattle.pr_cdb.specs.Requests.{request_of, named_command, length_of, kind_of_byte, has_refused_flag, reserve_out, AreBytes};
+ghost use Rattle.pr_cdb.specs.Requests.{request_of, named_command, length_of, kind_of_byte, has_refused_flag, reserve_in, reserve_out, AreBytes};
 ghost use Rattle.pr_cdb.specs.Ranges.{FitsWhereRead};
 
 use crate::codes::{
@@ -118,15 +118,26 @@ fn reserve_in(cdb: &[u8], params: &[u8]) -> Result<Request, Bad>
     requires opcode { slice_index cdb.now 0 ≡ PERSISTENT_RESERVE_IN }
     ensures { result ≡ request_of cdb.now params.now }
 {
-    let action = cdb[1] & 0x1f;
-    let alloc = BigEndian::read_u16(&cdb[7..]);
-    let command = match action {
-        READ_KEYS => Command::ReadKeys { alloc },
-        READ_RESERVATION => Command::ReadReservation { alloc },
-        REPORT_CAPABILITIES => Command::ReportCapabilities { alloc },
-        _ => return Ok(illegal(INVALID_FIELD_IN_CDB)),
-    };
-    Ok(Request::Plain(command))
+    match named_in(cdb) {
+        Some(command) => Ok(Request::Plain(command)),
+        None => Ok(illegal(INVALID_FIELD_IN_CDB)),
+    }
+}
+
+// The command of the fields of PERSISTENT RESERVE IN.
+fn named_in(cdb: &[u8]) -> Option<Command>
+    requires { TEN_BYTE_CDB ≤ length cdb.now }
+    ensures { result ≡ reserve_in (slice_index cdb.now 1 % 32) (be16 cdb.now 7) }
+{
+    service_action_in(cdb[1] & 0x1f, allocation_length(cdb))
+}
+
+#[tactic(auto, unfolding(crate::specs::Bytes::be16))]
+fn allocation_length(cdb: &[u8]) -> u16
+    requires { TEN_BYTE_CDB ≤ length cdb.now }
+    ensures { result ≡ be16 cdb.now 7 }
+{
+    BigEndian::read_u16(&cdb[7..])
 }
 
 #[tactic(auto, unfolding(crate::specs::Requests::request_of, crate::specs::Requests::length_of, crate::specs::Bytes::be32))]
@@ -164,7 +175,7 @@ fn named_out(cdb: &[u8], params: &[u8]) -> Option<Command>
 {
     let rk = key_at(params, 0);
     let sark = key_at(params, 8);
-    service_action(cdb[1] & 0x1f, kind_of_byte(cdb[2]), rk, sark)
+    service_action_out(cdb[1] & 0x1f, kind_of_byte(cdb[2]), rk, sark)
 }
 
 // The key that begins at `place`.
@@ -176,9 +187,22 @@ fn key_at(params: &[u8], place: usize) -> u64
     BigEndian::read_u64(&params[place..])
 }
 
-// The service action of PERSISTENT RESERVE OUT. RESERVE and RELEASE need a type.
+/// The service action of PERSISTENT RESERVE IN with this number, if there is one, over its allocation length.
+pub fn service_action_in(action: u8, alloc: u16) -> Option<Command>
+    ensures { result ≡ reserve_in action alloc }
+{
+    match action {
+        READ_KEYS => Some(Command::ReadKeys { alloc }),
+        READ_RESERVATION => Some(Command::ReadReservation { alloc }),
+        REPORT_CAPABILITIES => Some(Command::ReportCapabilities { alloc }),
+        _ => None,
+    }
+}
+
+/// The service action of PERSISTENT RESERVE OUT with this number, if there is one, over its type and its keys. RESERVE
+/// and RELEASE need a type.
 #[tactic(auto, unfolding(crate::specs::Requests::reserve_out))]
-fn service_action(action: u8, kind: Option<Kind>, rk: u64, sark: u64) -> Option<Command>
+pub fn service_action_out(action: u8, kind: Option<Kind>, rk: u64, sark: u64) -> Option<Command>
     ensures { result ≡ reserve_out action kind rk sark }
 {
     match action {
@@ -188,7 +212,8 @@ fn service_action(action: u8, kind: Option<Kind>, rk: u64, sark: u64) -> Option<
         CLEAR => Some(Command::Clear { rk }),
         PREEMPT => Some(Command::Preempt { rk, sark, kind }),
         PREEMPT_AND_ABORT => Some(Command::PreemptAbort { rk, sark, kind }),
-        _ => Some(Command::RegisterIgnore { sark }),
+        REGISTER_AND_IGNORE_EXISTING_KEY => Some(Command::RegisterIgnore { sark }),
+        _ => None,
     }
 }
 

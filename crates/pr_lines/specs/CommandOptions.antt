@@ -1,19 +1,16 @@
 -- Agrees with docs/FORMATS.md, 'COMMAND'.
 -- The options that spell a PERSISTENT RESERVE command, as in the manual of `sg_persist`.
-use Rattle.std.specs.Prelude.{ℕ, ◌&&◌, if◌then◌else◌, List, [], ◌∷◌, map, codes, Option, Some, None, is_none, unwrap_or, option_map}
+use Rattle.std.specs.Prelude.{ℕ, ◌==◌, ◌&&◌, ◌||◌, if◌then◌else◌, List, [], ◌∷◌, map, codes, Option, Some, None, is_none, unwrap_or, option_map}
 use Rattle.std.specs.Option.{option_or}
 use Rattle.pr_cdb.specs.declared.command.Kind.{Kind}
 use Rattle.pr_cdb.specs.declared.command.Command.{Command}
-use Rattle.pr_cdb.specs.declared.command.Command.TheVariants.{ReadKeys, ReadReservation, ReportCapabilities, Register, RegisterIgnore, Reserve, Release, Clear, Preempt, PreemptAbort}
+use Rattle.pr_cdb.specs.declared.codes.TheConstants.{PREEMPT, PREEMPT_AND_ABORT}
+use Rattle.pr_cdb.specs.Requests.{reserve_in, reserve_out}
 use Rattle.pr_script.specs.declared.grammar.TheConstants.{WRITTEN_LENGTH}
 use Rattle.pr_lines.specs.declared.options.Direction.{Direction}
 use Rattle.pr_lines.specs.declared.options.Direction.TheVariants.{In, Out}
 use Rattle.pr_lines.specs.declared.options.ServiceAction.{ServiceAction}
 use Rattle.pr_lines.specs.declared.options.ServiceAction.TheVariants as action
-use Rattle.pr_lines.specs.declared.options.InAction.{InAction}
-use Rattle.pr_lines.specs.declared.options.InAction.TheVariants as in_action
-use Rattle.pr_lines.specs.declared.options.OutAction.{OutAction}
-use Rattle.pr_lines.specs.declared.options.OutAction.TheVariants as out_action
 use Rattle.pr_lines.specs.declared.options.CommandOption.{CommandOption}
 use Rattle.pr_lines.specs.declared.options.CommandOption.TheVariants as option
 use Rattle.pr_lines.specs.declared.options.TheConstants.{DIRECTIONS, ACTIONS}
@@ -52,25 +49,14 @@ abbrev pub with_options : Written → List (List ℕ) → Option Written
 with_options w [] = Some w
 with_options w (word ∷ ws) = option_of word >>= λ o. with_option w o >>= λ v. with_options v ws
 
--- the commands of `--in`
-unfoldable pub command_in : InAction → Command
-command_in in_action.ReadKeys = ReadKeys WRITTEN_LENGTH
-command_in in_action.ReadReservation = ReadReservation WRITTEN_LENGTH
-command_in in_action.ReportCapabilities = ReportCapabilities WRITTEN_LENGTH
-
--- the commands of `--out`. A key that is not written is 0, and a key or type that is not used is dropped.
-unfoldable pub command_out : OutAction → ℕ → ℕ → Option Kind → Option Command
-command_out out_action.Register rk sark kind = Some (Register rk sark)
-command_out out_action.RegisterIgnore rk sark kind = Some (RegisterIgnore sark)
-command_out out_action.Reserve rk sark kind = option_map (λ k. Reserve rk k) kind
-command_out out_action.Release rk sark kind = option_map (λ k. Release rk k) kind
-command_out out_action.Clear rk sark kind = Some (Clear rk)
-command_out out_action.Preempt rk sark kind = option_map (λ k. Preempt rk sark (Some k)) kind
-command_out out_action.PreemptAbort rk sark kind = option_map (λ k. PreemptAbort rk sark (Some k)) kind
+-- the commands of `--out`: a key that is not written is 0, one that is not used is dropped, and a PREEMPT needs a type too
+abbrev pub command_out : ℕ → ℕ → ℕ → Option Kind → Option Command
+command_out action rk sark kind =
+    if (action == PREEMPT || action == PREEMPT_AND_ABORT) && is_none kind then None else reserve_out action kind rk sark
 
 -- the command of a service action that goes in this direction; one of `--in` has neither a key nor a type
 abbrev pub command_going : Direction → ServiceAction → Written → Option Command
-command_going In (action.In a) w = if is_none w.rk && (is_none w.sark && is_none w.kind) then Some (command_in a) else None
+command_going In (action.In a) w = if is_none w.rk && (is_none w.sark && is_none w.kind) then reserve_in a WRITTEN_LENGTH else None
 command_going In (action.Out a) w = None
 command_going Out (action.In a) w = None
 command_going Out (action.Out a) w = command_out a (unwrap_or w.rk 0) (unwrap_or w.sark 0) w.kind

@@ -3,13 +3,17 @@
 ghost use Rattle.std.specs.Prelude.{◌≡◌, ◌∷◌, option_and_then};
 ghost use Rattle.std.specs.Result.{result_ok};
 ghost use Rattle.pr_lines.specs.TextLines.{words};
-ghost use Rattle.pr_lines.specs.CommandOptions.{key_after, option_of, with_option, with_options, no_option, command_in, command_out, command_of};
+ghost use Rattle.pr_lines.specs.CommandOptions.{key_after, option_of, with_option, with_options, no_option, command_out, command_of};
 
 use crate::cutting::next_word;
 use crate::lookup::lookup;
 use crate::misfit::{Misfit, Wanted};
 use crate::terms::{key_or_zero, kind_of, value_after};
-use pr_cdb::{Command, Kind};
+use pr_cdb::codes::{
+    CLEAR, PREEMPT, PREEMPT_AND_ABORT, READ_KEYS, READ_RESERVATION, REGISTER,
+    REGISTER_AND_IGNORE_EXISTING_KEY, RELEASE, REPORT_CAPABILITIES, RESERVE,
+};
+use pr_cdb::{Command, Kind, service_action_in, service_action_out};
 use pr_script::WRITTEN_LENGTH;
 
 /// The direction of a command's data: `--in` or `--out`.
@@ -19,31 +23,11 @@ pub enum Direction {
     Out,
 }
 
-/// A service action of `--in`.
-#[derive(Clone, Copy, PartialEq, Eq)]
-pub enum InAction {
-    ReadKeys,
-    ReadReservation,
-    ReportCapabilities,
-}
-
-/// A service action of `--out`.
-#[derive(Clone, Copy, PartialEq, Eq)]
-pub enum OutAction {
-    Register,
-    RegisterIgnore,
-    Reserve,
-    Release,
-    Clear,
-    Preempt,
-    PreemptAbort,
-}
-
-/// A service action.
+/// A service action, by its number.
 #[derive(Clone, Copy, PartialEq, Eq)]
 pub enum ServiceAction {
-    In(InAction),
-    Out(OutAction),
+    In(u8),
+    Out(u8),
 }
 
 /// The options for the direction of the data, of which each command names one.
@@ -54,28 +38,22 @@ pub const DIRECTIONS: [(&[u8], Direction); 2] = [
 
 /// The options for the service actions.
 pub const ACTIONS: [(&[u8], ServiceAction); 10] = [
-    (b"--read-keys", ServiceAction::In(InAction::ReadKeys)),
-    (
-        b"--read-reservation",
-        ServiceAction::In(InAction::ReadReservation),
-    ),
+    (b"--read-keys", ServiceAction::In(READ_KEYS)),
+    (b"--read-reservation", ServiceAction::In(READ_RESERVATION)),
     (
         b"--report-capabilities",
-        ServiceAction::In(InAction::ReportCapabilities),
+        ServiceAction::In(REPORT_CAPABILITIES),
     ),
-    (b"--register", ServiceAction::Out(OutAction::Register)),
+    (b"--register", ServiceAction::Out(REGISTER)),
     (
         b"--register-ignore",
-        ServiceAction::Out(OutAction::RegisterIgnore),
+        ServiceAction::Out(REGISTER_AND_IGNORE_EXISTING_KEY),
     ),
-    (b"--reserve", ServiceAction::Out(OutAction::Reserve)),
-    (b"--release", ServiceAction::Out(OutAction::Release)),
-    (b"--clear", ServiceAction::Out(OutAction::Clear)),
-    (b"--preempt", ServiceAction::Out(OutAction::Preempt)),
-    (
-        b"--preempt-abort",
-        ServiceAction::Out(OutAction::PreemptAbort),
-    ),
+    (b"--reserve", ServiceAction::Out(RESERVE)),
+    (b"--release", ServiceAction::Out(RELEASE)),
+    (b"--clear", ServiceAction::Out(CLEAR)),
+    (b"--preempt", ServiceAction::Out(PREEMPT)),
+    (b"--preempt-abort", ServiceAction::Out(PREEMPT_AND_ABORT)),
 ];
 
 /// One option of a command.
@@ -151,7 +129,11 @@ impl Written {
         let direction = self.direction.ok_or(Misfit::missing(Wanted::Direction))?;
         let action = self.action.ok_or(Misfit::missing(Wanted::ServiceAction))?;
         match (direction, action) {
-            (Direction::In, ServiceAction::In(action)) if self.is_bare() => Ok(command_in(action)),
+            (Direction::In, ServiceAction::In(action)) if self.is_bare() => {
+                service_action_in(action, WRITTEN_LENGTH).ok_or(Misfit::missing(
+                    Wanted::ServiceAction,
+                ))
+            }
             (Direction::In, ServiceAction::In(_)) => Err(Misfit::missing(Wanted::NoParameter)),
             (Direction::Out, ServiceAction::Out(action)) => command_out(
                 action,
@@ -217,32 +199,12 @@ fn key_after(name: &str, word: &[u8]) -> Option<u64>
     key_or_zero(value_after(name, word)?)
 }
 
-// The commands of `--in`.
-#[tactic(auto, unfolding(crate::specs::CommandOptions::command_in))]
-fn command_in(action: InAction) -> Command
-    ensures { result ≡ command_in action }
-{
-    let alloc = WRITTEN_LENGTH;
-    match action {
-        InAction::ReadKeys => Command::ReadKeys { alloc },
-        InAction::ReadReservation => Command::ReadReservation { alloc },
-        InAction::ReportCapabilities => Command::ReportCapabilities { alloc },
-    }
-}
-
-// The commands of `--out`.
-#[tactic(auto, unfolding(crate::specs::CommandOptions::command_out))]
-fn command_out(action: OutAction, rk: u64, sark: u64, kind: Option<Kind>) -> Option<Command>
+// The commands of `--out`. A PREEMPT needs a type too.
+fn command_out(action: u8, rk: u64, sark: u64, kind: Option<Kind>) -> Option<Command>
     ensures { result ≡ command_out action rk sark kind }
 {
-    match action {
-        OutAction::Register => Some(Command::Register { rk, sark }),
-        OutAction::RegisterIgnore => Some(Command::RegisterIgnore { sark }),
-        OutAction::Reserve => kind.map(|kind| Command::Reserve { rk, kind }),
-        OutAction::Release => kind.map(|kind| Command::Release { rk, kind }),
-        OutAction::Clear => Some(Command::Clear { rk }),
-        OutAction::Preempt if kind.is_some() => Some(Command::Preempt { rk, sark, kind }),
-        OutAction::PreemptAbort if kind.is_some() => Some(Command::PreemptAbort { rk, sark, kind }),
-        _ => None,
+    if (action == PREEMPT || action == PREEMPT_AND_ABORT) && kind.is_none() {
+        return None;
     }
+    service_action_out(action, kind, rk, sark)
 }

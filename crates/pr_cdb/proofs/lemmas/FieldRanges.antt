@@ -46,10 +46,12 @@ Named-reserve_out : (action : ℕ) (kind : Option Kind) (rk sark : ℕ) → rk <
 unfolding reserve_out
 Named-reserve_out action None rk sark r s =
     one_of (action == REGISTER) (record { fits = (r, s) }) (one_of (action == RESERVE) (record { fits = tt }) (one_of (action == RELEASE) (record { fits = tt }) (
-    one_of (action == CLEAR) (record { fits = r }) (one_of (action == PREEMPT) (record { fits = (r, s) }) (one_of (action == PREEMPT_AND_ABORT) (record { fits = (r, s) }) (record { fits = s }))))))
+    one_of (action == CLEAR) (record { fits = r }) (one_of (action == PREEMPT) (record { fits = (r, s) }) (one_of (action == PREEMPT_AND_ABORT) (record { fits = (r, s) }) (
+    one_of (action == REGISTER_AND_IGNORE_EXISTING_KEY) (record { fits = s }) (record { fits = tt })))))))
 Named-reserve_out action (Some k) rk sark r s =
     one_of (action == REGISTER) (record { fits = (r, s) }) (one_of (action == RESERVE) (record { fits = r }) (one_of (action == RELEASE) (record { fits = r }) (
-    one_of (action == CLEAR) (record { fits = r }) (one_of (action == PREEMPT) (record { fits = (r, s) }) (one_of (action == PREEMPT_AND_ABORT) (record { fits = (r, s) }) (record { fits = s }))))))
+    one_of (action == CLEAR) (record { fits = r }) (one_of (action == PREEMPT) (record { fits = (r, s) }) (one_of (action == PREEMPT_AND_ABORT) (record { fits = (r, s) }) (
+    one_of (action == REGISTER_AND_IGNORE_EXISTING_KEY) (record { fits = s }) (record { fits = tt })))))))
 
 Named-named : (cdb params : List ℕ) → AreBytes cdb → AreBytes params → Named (named_command cdb params)
 unfolding named_command
@@ -59,7 +61,8 @@ Named-named cdb params c p =
     let blocks = be16-lt cdb 7 c in
     one_of (opcode == TEST_UNIT_READY) (record { fits = tt }) (one_of (opcode == REQUEST_SENSE) (record { fits = tt }) (
     one_of (opcode == READ_10) (record { fits = (be32-lt cdb 2 c, blocks) }) (one_of (opcode == WRITE_10) (record { fits = (be32-lt cdb 2 c, blocks) }) (
-    one_of (opcode == PERSISTENT_RESERVE_IN) (one_of (action == READ_KEYS) (record { fits = blocks }) (one_of (action == READ_RESERVATION) (record { fits = blocks }) (record { fits = blocks })))
+    one_of (opcode == PERSISTENT_RESERVE_IN) (one_of (action == READ_KEYS) (record { fits = blocks }) (one_of (action == READ_RESERVATION) (record { fits = blocks }) (
+    one_of (action == REPORT_CAPABILITIES) (record { fits = blocks }) (record { fits = tt }))))
     (Named-reserve_out action (kind_of_byte (slice_index cdb 2)) (be64 params 0) (be64 params 8) (be64-lt params 0 p) (be64-lt params 8 p))))))
 
 Read-named : (o : Option Command) → Named o → Read (option_map_or (λ c. plain_request c) o (illegal INVALID_FIELD_IN_CDB))
@@ -72,7 +75,6 @@ Read-request_of cdb params c p =
     let opcode = slice_index cdb 0 in
     let action = slice_index cdb 1 % 32 in
     let is_sense = opcode == REQUEST_SENSE in
-    let is_in = opcode == PERSISTENT_RESERVE_IN in
     let is_out = opcode == PERSISTENT_RESERVE_OUT in
     either (length cdb == 0) (record { fits = tt }) (
     either (opcode == INQUIRY || opcode == REPORT_LUNS) (record { fits = tt }) (
@@ -80,7 +82,7 @@ Read-request_of cdb params c p =
     either (nat_lt (length cdb) (length_of opcode)) (record { fits = tt }) (
     either (is_sense && has_flag (slice_index cdb 1) DESC) (record { fits = tt }) (
     either (is_sense && nat_lt (slice_index cdb 4) FIXED_SENSE_LENGTH) (record { fits = tt }) (
-    either ((is_in && nat_lt REPORT_CAPABILITIES action) || (is_out && nat_lt REGISTER_AND_IGNORE_EXISTING_KEY action)) (record { fits = tt }) (
+    either (is_out && nat_lt REGISTER_AND_IGNORE_EXISTING_KEY action) (record { fits = tt }) (
     either (is_out && not (be32 cdb 5 == PARAMETER_LIST_LENGTH)) (record { fits = tt }) (
     either (is_out && nat_lt (length params) PARAMETER_LIST_LENGTH) (record { fits = tt }) (
     either (is_none (named_command cdb params)) (record { fits = tt }) (

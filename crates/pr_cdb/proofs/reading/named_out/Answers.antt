@@ -8,4 +8,4 @@ pub returns : goal.returns
 unfolding named_command
 returns c =
     let action = and_mask (slice_index c.args.cdb.now 1) 5 in
-    rw (c.requires.opcode, c.service_action.ensures) cc
+    rw (c.requires.opcode, c.service_action_out.ensures) cc

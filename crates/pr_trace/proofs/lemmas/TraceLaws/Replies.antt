@@ -190,7 +190,6 @@ reads cdb params =
     let opcode = slice_index cdb 0 in
     let action = slice_index cdb 1 % 32 in
     let is_sense = opcode == REQUEST_SENSE in
-    let is_in = opcode == PERSISTENT_RESERVE_IN in
     let is_out = opcode == PERSISTENT_RESERVE_OUT in
     either (length cdb == 0) (unread _) (
     either (opcode == INQUIRY || opcode == REPORT_LUNS) (unread _) (
@@ -198,7 +197,7 @@ reads cdb params =
     either (nat_lt (length cdb) (length_of opcode)) (unread _) (
     either (is_sense && has_flag (slice_index cdb 1) DESC) (refused _ (omega arith)) (
     either (is_sense && nat_lt (slice_index cdb 4) FIXED_SENSE_LENGTH) (unread _) (
-    either ((is_in && nat_lt REPORT_CAPABILITIES action) || (is_out && nat_lt REGISTER_AND_IGNORE_EXISTING_KEY action)) (refused _ (omega arith)) (
+    either (is_out && nat_lt REGISTER_AND_IGNORE_EXISTING_KEY action) (refused _ (omega arith)) (
     either (is_out && not (be32 cdb 5 == PARAMETER_LIST_LENGTH)) (refused _ (omega arith)) (
     either (is_out && nat_lt (length params) PARAMETER_LIST_LENGTH) (unread _) (
     either (is_none (named_command cdb params)) (refused _ (omega arith)) (
