@@ -1,26 +1,17 @@
 -- Two clauses are equal where their actions and their conditions are.
-use Rattle.pr_roles.proofs.Common.{◌≡◌, true, refl, ap, ◌∙◌, subst, false≢true, and_parts, Option, rules}
+use Rattle.pr_roles.proofs.Common.{◌≡◌, true, ap, ◌∙◌, subst, and_parts, Option, rules}
 use Rattle.std.specs.Option.{option_eq}
 use Rattle.std.proofs.lemmas.Slice.Eq.{slice_eq-Decides}
 use Rattle.pr_roles.specs.declared.role.Clause.{Clause}
 use Rattle.pr_roles.specs.declared.role.Action.{Action}
 use Rattle.pr_roles.specs.declared.role.Condition.{Condition}
-use Rattle.pr_roles.specs.declared.role.Action.TheVariants.{Register, Unregister, Reserve, Release, Clear, Preempt, Read, Write}
 use Rattle.pr_roles.specs.contracts.role.ActionPartialEq.TheImpl as action
 use Rattle.pr_roles.specs.contracts.role.ConditionPartialEq.TheImpl as condition
 use Rattle.pr_roles.specs.contracts.role.ClausePartialEq.TheImpl as clause
 use Rattle.pr_roles.proofs.copying.same_clauses.Goals as goal
 
 same_action : (a b : Action) → action.eq-value.it a b ≡ true → a ≡ b
-same_action (Register k) (Register l) h = search rules
-same_action Unregister Unregister h = refl
-same_action (Reserve s) (Reserve t) h = search rules
-same_action Release Release h = refl
-same_action Clear Clear h = refl
-same_action (Preempt k s) (Preempt l t) h = search rules
-same_action Read Read h = refl
-same_action Write Write h = refl
-same_action _ _ h = absurd (false≢true h)
+same_action a b h = search rules
 
 same_condition : (x y : Option Condition) → option_eq condition.eq-value.it x y ≡ true → x ≡ y
 same_condition x y h = search rules
