@@ -2,7 +2,7 @@
 -- The bytes of each command, with zero in every field that the command does not name (SPC-4, 'TEST UNIT
 -- READY', 'REQUEST SENSE', 'PERSISTENT RESERVE IN' and 'PERSISTENT RESERVE OUT command'; SBC-3, 'READ
 -- (10)' and 'WRITE (10) command').
-use Rattle.std.specs.Prelude.{ℕ, List, [], ◌∷◌, ◌++◌, slice_index, Option}
+use Rattle.std.specs.Prelude.{◌≡◌, ℕ, List, [], ◌∷◌, ◌++◌, length, take, slice_index, Option}
 use Rattle.std.specs.Option.{option_map_or}
 use Rattle.std.specs.Int.{w16, w32, w64, to_be_bytes}
 use Rattle.pr_cdb.specs.declared.codes.TheConstants.{TEST_UNIT_READY, REQUEST_SENSE, READ_10, WRITE_10, PERSISTENT_RESERVE_IN, PERSISTENT_RESERVE_OUT, READ_KEYS, READ_RESERVATION, REPORT_CAPABILITIES, REGISTER, RESERVE, RELEASE, CLEAR, PREEMPT, PREEMPT_AND_ABORT, REGISTER_AND_IGNORE_EXISTING_KEY, FIXED_SENSE_LENGTH, PARAMETER_LIST_LENGTH}
@@ -76,3 +76,7 @@ spelling (Clear rk) = reserve_out CLEAR 0 rk 0
 spelling (Preempt rk sark kind) = reserve_out PREEMPT (kind_byte kind) rk sark
 spelling (PreemptAbort rk sark kind) = reserve_out PREEMPT_AND_ABORT (kind_byte kind) rk sark
 spelling (RegisterIgnore sark) = reserve_out REGISTER_AND_IGNORE_EXISTING_KEY 0 0 sark
+
+-- what is written begins with the codes of the command
+abbrev pub BeginsWithCodes : Command → Wire → Type 0
+BeginsWithCodes c wire = take (length (command_codes c)) wire.cdb.items ≡ command_codes c

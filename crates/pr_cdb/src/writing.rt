@@ -3,7 +3,7 @@
 ghost use Rattle.std.specs.Prelude.{◌≡◌, ◌≤◌, ◌<◌, length};
 ghost use Rattle.pr_cdb.specs.Requests.{plain_request, request_of_wire};
 ghost use Rattle.pr_cdb.specs.Ranges.{Fits};
-ghost use Rattle.pr_cdb.specs.Spelling.{spelling, wire_of, kind_byte, six, transfer, reserve_in, reserve_out};
+ghost use Rattle.pr_cdb.specs.Spelling.{spelling, BeginsWithCodes, wire_of, kind_byte, six, transfer, reserve_in, reserve_out};
 
 use crate::codes::{
     CLEAR, FIXED_SENSE_LENGTH, PARAMETER_LIST_LENGTH, PERSISTENT_RESERVE_IN,
@@ -20,6 +20,7 @@ use byteorder::{BigEndian, ByteOrder};
 /// What is written is read as the very command.
 pub fn encode(command: &Command) -> Wire
     ensures bytes { result ≡ spelling command.now }
+    ensures codes { BeginsWithCodes command.now result }
     ensures read_again { request_of_wire result ≡ plain_request command.now }
 {
     wire_of(*command)
@@ -34,6 +35,7 @@ pub fn reads_what_is_written()
 #[tactic(auto, unfolding(crate::specs::Spelling::spelling))]
 fn wire_of(command: Command) -> Wire
     ensures bytes { result ≡ spelling command }
+    ensures codes { BeginsWithCodes command result }
     ensures fits { Fits command }
 {
     match command {
