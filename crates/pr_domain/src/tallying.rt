@@ -30,7 +30,7 @@ use pr_script::Class;
 use pr_script::limits::MOST_ARMS;
 use pr_sets::{BitSet, Wide};
 use pr_unit::is_refused;
-use pr_views::{MOST_REGISTRATIONS, Possibilities};
+use pr_views::{MOST_REGISTRATIONS, Possibilities, count_of_reservations};
 
 /// The arm that takes the data of GOOD, counted from 1, or 0 where none does.
 #[derive(Clone, Copy)]
@@ -290,15 +290,13 @@ fn add_place(tally: &mut Tally, view: &Possibilities, place: Place, asked: &Test
     let registrations = asked.keys.len() as u8 + 1;
     let possible = view.registrations[usize::from(place.sender)];
     let mut done = BitSet::none();
-    let mut registration = 0;
-    while registration < registrations {
+    for registration in 0..registrations {
         let left = possible.except(done);
         if left.has(registration) {
             let alike = alike_to(asked, left, registration);
             add_alike(tally, view, place, asked, registration, alike);
             done = done.or(alike);
         }
-        registration += 1;
     }
 }
 
@@ -323,13 +321,11 @@ pub(crate) fn tally(view: &Possibilities, hosts: u8, own: u8, asked: &TestedComm
     ensures { IsTallyOf view.now hosts own asked.now result }
 {
     let mut tally = Tally::none();
-    let mut reservation = 0;
-    while reservation < hosts * 4 + 3 {
+    for reservation in 0..count_of_reservations(hosts) {
         if view.reservations.has(reservation) {
             let place = Place::of(hosts, own, reservation);
             add_reservation(&mut tally, view, place, asked);
         }
-        reservation += 1;
     }
     tally
 }

@@ -18,7 +18,7 @@ use pr_regions::{Branch, Ending, Place, branches, purpose_of, standing_of};
 use pr_roles::{Clause, Role, is_always_permitted, key_at, names};
 use pr_sets::{BitSet, ViewSet};
 use pr_unit::is_refused;
-use pr_views::{MOST_REGISTRATIONS, Possibilities, ViewOf, reservation_at};
+use pr_views::{MOST_REGISTRATIONS, Possibilities, ViewOf, count_of_reservations, reservation_at};
 
 /// Whether the role permits this command of the host in each state that the host's view shows and in which the
 /// command ends GOOD. It takes no memory.
@@ -66,8 +66,7 @@ fn is_permitted_under_each(
     if is_one_unconditional(clauses, command) {
         return true;
     }
-    let mut reservation = 0;
-    while reservation < hosts * 4 + 3 {
+    for reservation in 0..count_of_reservations(hosts) {
         if view.reservations.has(reservation) {
             let held = reservation_at(hosts, reservation);
             let place = Place {
@@ -87,7 +86,6 @@ fn is_permitted_under_each(
                 return false;
             }
         }
-        reservation += 1;
     }
     true
 }
@@ -130,12 +128,10 @@ impl Asking<'_> {
         ensures permitted { IsTrue result → PermitsAt self.now }
         ensures refused { result ≡ false → RefusesAt self.now }
     {
-        let mut registration = 0;
-        while registration < MOST_REGISTRATIONS {
+        for registration in 0..MOST_REGISTRATIONS {
             if !self.is_permitted_with(registration) {
                 return false;
             }
-            registration += 1;
         }
         true
     }

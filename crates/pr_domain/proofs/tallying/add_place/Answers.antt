@@ -26,7 +26,6 @@ pub loop-registration-init : goal.loop-registration-init
 loop-registration-init c = record {
   grows = λ s owners. senders_none s c.args.asked.now.command c.args.asked.now.tests.now (view_in s c.args.view.now) c.args.place c.none-done.result c.args.tally.now c.none-done.ensures;
   done = λ r small. absurd (omega arith);
-  bound = omega arith;
 }
 
 pub loop-registration-preserved : goal.loop-registration-preserved
@@ -48,7 +47,6 @@ loop-registration-preserved c =
             (below_more (λ r. has possible r ≡ true → has w.or-done.result r ≡ true) n
             (λ r small may. w.or-done.ensures r ∙ or_left (has done r) (has w.alike_to-alike.result r) (known.done r small may))
             (λ may. w.or-done.ensures n ∙ or_right (has done n) (has w.alike_to-alike.result n) w.alike_to-alike.ensures.itself));
-        bound = omega arith;
       }
       | else-has w ↦ record {
         grows = λ s owners.
@@ -56,7 +54,6 @@ loop-registration-preserved c =
             subst (λ d. Grows view command tests old c.if-has.tally (HasOneOf s c.args.place d)) (sym w.done-is) (subst (λ t. Grows view command tests old t (HasOneOf s c.args.place done)) (sym w.tally-is) (known.grows s owners));
         done = subst (λ d. (r : ℕ) → r < n + 1 → has possible r ≡ true → has d r ≡ true) (sym w.done-is)
             (below_more (λ r. has possible r ≡ true → has done r ≡ true) n known.done (done_if (has possible n) (has done n) (sym (c.except-left.ensures n) ∙ sym c.has.ensures ∙ w.if-has.false)));
-        bound = omega arith;
       }
     ]
 

@@ -17,11 +17,9 @@ returns-then-is_one_unconditional-clause-permitted c is =
 
 pub loop-reservation-preserved : goal.loop-reservation-preserved
 loop-reservation-preserved c =
-    let s = scope_at c.args.keys.now c.args.hosts c.args.sender in (
-      below_more (λ x. ArePermitted (view_in s c.args.view.now) c.args.clauses.now c.args.command (λ u. IsSo s u (Reservation x))) c.loop-reservation.reservation c.loop-reservation.invariant.0
-          (elim c.if-has.branch [
-            | then-has+else-not-is_permitted_at w ↦ w.is_permitted_at.ensures.permitted w.if-not-is_permitted_at.false
-            | else-has w ↦ not_shown s c.args.view.now c.args.clauses.now c.args.command c.loop-reservation.reservation (sym c.has.ensures ∙ w.if-has.false)
-          ]),
-      omega arith,
-    )
+    let s = scope_at c.args.keys.now c.args.hosts c.args.sender in
+    below_more (λ x. ArePermitted (view_in s c.args.view.now) c.args.clauses.now c.args.command (λ u. IsSo s u (Reservation x))) c.loop-reservation.reservation c.loop-reservation.invariant
+    (elim c.if-has.branch [
+      | then-has+else-not-is_permitted_at w ↦ w.is_permitted_at.ensures.permitted w.if-not-is_permitted_at.false
+      | else-has w ↦ not_shown s c.args.view.now c.args.clauses.now c.args.command c.loop-reservation.reservation (sym c.has.ensures ∙ w.if-has.false)
+    ])

@@ -10,6 +10,6 @@ returns-then-not-is_permitted_with-clause-refused c denied =
 
 pub returns-clause-permitted : goal.returns-clause-permitted
 returns-clause-permitted c is =
-    let all : c.loop-registration.registration ≡ MOST_REGISTRATIONS = (let e = c.loop-registration.invariant.1 in omega arith) in
+    let all : c.loop-registration.registration ≡ MOST_REGISTRATIONS = omega arith in
     each_registration c.args.self.now.keys.now c.args.self.now.command c.args.self.now.view.now c.args.self.now.place c.args.self.now.clauses.now (asked_at c.args.self.now)
-    (λ r small. c.loop-registration.invariant.0 r (subst (λ n. r < n) (sym all) small))
+    (λ r small. c.loop-registration.invariant r (subst (λ n. r < n) (sym all) small))
