@@ -3,15 +3,11 @@
 use pr_cdb::Command;
 use pr_roles::{Action, Nexus, Task};
 use pr_script::Test;
-use pr_unit::{Admission, Demand, admission_of, demand_of};
+use pr_unit::{Admission, admission_of, demand_of};
 
 /// Whether the command has this key in one of its fields.
 pub(crate) fn names_key(command: &Command, key: u64) -> bool {
-    let asks = match demand_of(*command) {
-        Demand::Register(named) | Demand::Preempt(named, _) => named == key,
-        _ => false,
-    };
-    asks || admission_of(*command).key() == Some(key)
+    demand_of(*command).key() == Some(key) || admission_of(*command).key() == Some(key)
 }
 
 /// Whether the command needs a reservation key and has none: 0 is nobody's, so it always conflicts.

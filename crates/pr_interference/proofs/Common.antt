@@ -39,7 +39,6 @@ pub use Rattle.pr_regions.specs.Images.{IsImage}
 pub use Rattle.pr_regions.specs.Purposes.{number_in, purpose_of, Purpose}
 pub use Rattle.pr_regions.specs.Regions.{mark, Changes}
 pub use Rattle.pr_regions.specs.declared.place.Place.{Place}
-pub use Rattle.pr_unit.specs.declared.demand.Demand.TheVariants.{Register, Unregister, Reserve, Release, Clear, PreemptAll, Preempt}
 pub use Rattle.pr_regions.specs.declared.region.Branch.{Branch}
 pub use Rattle.pr_regions.specs.declared.region.Transition.{Transition}
 pub use Rattle.pr_regions.specs.inside.Adding.{Allows, Adds}

@@ -5,7 +5,7 @@ ghost use Rattle.pr_regions.specs.Purposes.{HasNumber};
 ghost use Rattle.pr_interference.specs.inside.Clauses.{purpose_for, may_send as may_send_as, is_registered_as, refuses_strangers, AreSenders};
 
 use crate::onlooker::Onlooker;
-use pr_regions::{Place, Purpose, Standing, every_key, named, number_in};
+use pr_regions::{Place, Purpose, Standing, every_key, number_in};
 use pr_registry::Held;
 use pr_roles::{Action, Condition};
 use pr_sets::BitSet;
@@ -76,7 +76,7 @@ pub(crate) fn senders(purpose: Purpose, standing: Standing) -> BitSet
     requires { HasNumber purpose }
     ensures { AreSenders purpose standing result }
 {
-    match (standing, named(purpose)) {
+    match (standing, purpose.key()) {
         (Standing::Unregistered, _) => BitSet::only(0),
         (Standing::Named, Some(key)) => BitSet::only(key),
         (Standing::Named, None) => BitSet::none(),

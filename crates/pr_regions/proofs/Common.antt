@@ -28,7 +28,6 @@ pub use Rattle.pr_views.specs.Possibilities.{Scope, number_of, IsScope, Registra
 pub use Rattle.pr_regions.specs.Purposes.{HasNumber, number_in, Purpose}
 pub use Rattle.pr_regions.specs.Readings.{IsProperReading}
 pub use Rattle.pr_regions.specs.Regions.{Meets, HasRoom, IsInRegion, IsCovered, Ends}
-pub use Rattle.pr_unit.specs.declared.demand.Demand.TheVariants.{Read, Write, Look, Register, Unregister, Reserve, Release, Clear, PreemptAll, Preempt}
 pub use Rattle.pr_regions.specs.declared.purpose.Standing.{Standing}
 pub use Rattle.pr_regions.specs.declared.region.Branch.{Branch}
 pub use Rattle.pr_regions.specs.declared.region.Transition.{Transition}

@@ -8,7 +8,7 @@ use Rattle.pr_unit.specs.declared.demand.Demand.{Demand}
 use Rattle.pr_unit.specs.declared.demand.Demand.TheVariants.{Look, Read, Write, Register, Unregister, Reserve, Release, Clear, PreemptAll, Preempt}
 use Rattle.pr_script.specs.Grammar.{is_declared}
 use Rattle.pr_roles.specs.declared.limits.TheConstants.{MOST_KEYS}
-use Rattle.pr_unit.specs.Demands.{Asked, demand_of}
+use Rattle.pr_unit.specs.Demands.{Asked, demand_of, named}
 
 -- its key is the number of a declared one, and a PREEMPT has a type
 abbrev pub Purpose : Type 0
@@ -34,20 +34,7 @@ numbered keys (Preempt key kind) = option_map (λ t. Preempt (number_in keys key
 abbrev pub purpose_of : List ℕ → Command → Option Purpose
 purpose_of keys c = numbered keys (demand_of c)
 
--- the key that it names, if it names one
-abbrev pub named : {T : Type 0} → Demand ℕ T → Option ℕ
-named Look = None
-named (Read in_range) = None
-named (Write in_range) = None
-named (Register key) = Some key
-named Unregister = None
-named (Reserve kind) = None
-named (Release kind) = None
-named Clear = None
-named (PreemptAll kind) = None
-named (Preempt key kind) = Some key
-
--- its number, or 0
+-- the number of the key that it names, or 0
 abbrev pub key_named : Purpose → ℕ
 key_named p = unwrap_or (named p) 0
 

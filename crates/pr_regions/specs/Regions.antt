@@ -9,7 +9,7 @@ use Rattle.pr_registry.specs.declared.held.Held.TheVariants.{One, All}
 use Rattle.pr_registry.specs.Registrations.{key_of}
 use Rattle.pr_unit.specs.UnitStates.{UnitState, IsWellFormed, effect}
 use Rattle.pr_unit.specs.Conduct.{command_conflicts, command_fault}
-use Rattle.pr_unit.specs.Demands.{is_refused}
+use Rattle.pr_unit.specs.Demands.{is_refused, named}
 use Rattle.pr_roles.specs.declared.limits.TheConstants.{MOST_KEYS}
 use Rattle.pr_sets.specs.declared.bit_set.BitSet.{BitSet}
 use Rattle.pr_sets.specs.BitSets.{has}
@@ -21,7 +21,7 @@ use Rattle.pr_regions.specs.declared.region.Transition.{Transition}
 use Rattle.pr_regions.specs.declared.region.Ending.{Ending}
 use Rattle.pr_regions.specs.declared.region.Ending.TheVariants.{Conflict, Fault, Good}
 use Rattle.pr_regions.specs.declared.region.Branch.{Branch}
-use Rattle.pr_regions.specs.Purposes.{Purpose, named, purpose_of}
+use Rattle.pr_regions.specs.Purposes.{Purpose, purpose_of}
 use Rattle.pr_regions.specs.declared.purpose.Standing.{Standing}
 use Rattle.pr_regions.specs.declared.purpose.Standing.TheVariants.{Unregistered, Named, Other}
 

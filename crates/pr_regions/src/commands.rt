@@ -2,7 +2,7 @@
 
 ghost use Rattle.std.specs.Prelude.{◌≡◌, ◌≤◌, ◌==◌, IsTrue, IsSome, Some, length, position};
 ghost use Rattle.pr_roles.specs.declared.limits.TheConstants.{MOST_KEYS};
-ghost use Rattle.pr_regions.specs.Purposes.{number_in, purpose_of, named, key_named, HasNumber, names_declared};
+ghost use Rattle.pr_regions.specs.Purposes.{number_in, purpose_of, key_named, HasNumber, names_declared};
 ghost use Rattle.pr_regions.specs.Regions.{standing_of};
 
 use crate::purpose::{Purpose, Standing};
@@ -52,30 +52,13 @@ pub fn purpose_of(command: Command, keys: &[u64]) -> Purpose
     }
 }
 
-/// The key that a command for this names, by its number, if it names one.
-pub fn named(purpose: Purpose) -> Option<u8>
-    ensures { result ≡ named purpose }
-{
-    match purpose {
-        Purpose::Register(key) | Purpose::Preempt(key, _) => Some(key),
-        Purpose::Look
-        | Purpose::Read(_)
-        | Purpose::Write(_)
-        | Purpose::Unregister
-        | Purpose::Reserve(_)
-        | Purpose::Release(_)
-        | Purpose::Clear
-        | Purpose::PreemptAll(_) => None,
-    }
-}
-
 /// How a sender with this registration stands to the purpose.
 pub fn standing_of(purpose: Purpose, registration: u8) -> Standing
     ensures { result ≡ standing_of purpose registration }
 {
     if registration == 0 {
         Standing::Unregistered
-    } else if named(purpose) == Some(registration) {
+    } else if purpose.key() == Some(registration) {
         Standing::Named
     } else {
         Standing::Other

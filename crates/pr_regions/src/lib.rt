@@ -21,7 +21,7 @@ mod unregistering;
 mod words;
 
 pub use changed::registrations_after;
-pub use commands::{named, number_in, purpose_of, standing_of};
+pub use commands::{number_in, purpose_of, standing_of};
 pub use comparing::gains;
 pub use dispatch::branches;
 pub use endings::change_to_reservation;

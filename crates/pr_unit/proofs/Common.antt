@@ -5,7 +5,6 @@ pub use Rattle.std.proofs.lemmas.Bool.Decides.{nat_tests}
 pub use Rattle.std.proofs.Math.Bool.{or-false}
 pub use Rattle.pr_cdb.specs.declared.codes.TheConstants.{MOST_NEXUSES}
 pub use Rattle.pr_cdb.specs.declared.command.Command.{Command}
-pub use Rattle.pr_cdb.specs.declared.command.Command.TheVariants.{Register, Reserve, Release, Clear, Preempt}
 pub use Rattle.pr_cdb.specs.declared.reply.Reply.{Reply}
 pub use Rattle.pr_cdb.specs.declared.reply.Sense.{Sense}
 pub use Rattle.pr_cdb.specs.declared.wire.Request.{Request}

@@ -52,6 +52,19 @@ admission_of c = (asks c).0
 abbrev pub demand_of : Command → Asked
 demand_of c = (asks c).1
 
+-- the key that it names, if it names one
+abbrev pub named : {K T : Type 0} → Demand K T → Option K
+named Look = None
+named (Read in_range) = None
+named (Write in_range) = None
+named (Register key) = Some key
+named Unregister = None
+named (Reserve kind) = None
+named (Release kind) = None
+named Clear = None
+named (PreemptAll kind) = None
+named (Preempt key kind) = Some key
+
 -- the key that is named, if one has to be
 abbrev pub key_of_admission : Admission → Option ℕ
 key_of_admission Open = None

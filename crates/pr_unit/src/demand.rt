@@ -8,8 +8,7 @@ use pr_cdb::{Command, Kind};
 
 /// What a command asks for, once its sender is admitted.
 ///
-/// `K` names a key: by itself, or by its number among declared keys. `T` is the type of a PREEMPT: a command may come
-/// without one.
+/// `K` names a key: by itself, or by its number among declared keys. `T` is the type of a PREEMPT, which a command may lack.
 #[derive(Clone, Copy, PartialEq, Eq)]
 pub enum Demand<K, T> {
     /// To look: TEST UNIT READY, REQUEST SENSE and PERSISTENT RESERVE IN.
@@ -38,12 +37,34 @@ pub enum Demand<K, T> {
 /// actions that are allowed).
 #[derive(Clone, Copy, PartialEq, Eq)]
 pub enum Admission {
-    /// None.
+    /// It names none, and any sender is admitted.
     Open,
-    /// The sender's key, or zero where it has none; this one is named.
+    /// It names this one, which has to be the sender's key, or zero where the sender has none.
     OwnOrNone(u64),
-    /// The key of the sender, which is registered; this one is named.
+    /// It names this one, which has to be the sender's key: only a registered sender is admitted.
     Own(u64),
+}
+
+impl<K: Copy, T: Copy> Demand<K, T> {
+    ghost use Rattle.std.specs.Prelude.{◌≡◌};
+    ghost use Rattle.pr_unit.specs.Demands.{named};
+
+    /// The key that it names, if it names one.
+    pub fn key(self) -> Option<K>
+        ensures { result ≡ named self }
+    {
+        match self {
+            Demand::Register(key) | Demand::Preempt(key, _) => Some(key),
+            Demand::Look
+            | Demand::Read(_)
+            | Demand::Write(_)
+            | Demand::Unregister
+            | Demand::Reserve(_)
+            | Demand::Release(_)
+            | Demand::Clear
+            | Demand::PreemptAll(_) => None,
+        }
+    }
 }
 
 impl Admission {

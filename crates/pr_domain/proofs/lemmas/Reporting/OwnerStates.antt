@@ -5,7 +5,7 @@ use Rattle.std.specs.FinMap as map
 use Rattle.std.proofs.lemmas.Bool.{false_from_ne_true}
 use Rattle.pr_cdb.specs.declared.command.Kind.{Kind}
 use Rattle.pr_unit.specs.declared.demand.Demand.TheVariants.{Look, Read, Write, Register, Unregister, Reserve, Release, Clear, PreemptAll, Preempt}
-use Rattle.pr_unit.specs.Demands.{Asked, demand_of}
+use Rattle.pr_unit.specs.Demands.{Asked, demand_of, named}
 use Rattle.pr_unit.specs.Conduct.{conduct}
 use Rattle.pr_attention.proofs.lemmas.Sets.{same_codes, contains-no_code, contains-remove_code}
 use Rattle.pr_attention.proofs.lemmas.Bits.{same_bits, codes_of-zero, AreAttentions-codes_of}
@@ -21,7 +21,6 @@ use Rattle.pr_unit.proofs.lemmas.Attentions.Pairs.{contains-remove-pair}
 use Rattle.pr_unit.proofs.lemmas.Attentions.ToldAttentions.{is_pending_after, contains-told}
 use Rattle.pr_script.specs.Grammar.{is_declared}
 use Rattle.std.specs.Option.{option_map_or}
-use Rattle.pr_regions.specs.Purposes.{named}
 use Rattle.pr_regions.proofs.lemmas.Purposes.Written.{written_declared}
 use Rattle.pr_regions.proofs.lemmas.Regions.Effects.{not_itself, contains-others_itself}
 use Rattle.pr_domain.specs.inside.Reporting.{IsAfter}

@@ -1,5 +1,6 @@
 -- What a command that a clause names asks for, and a command of each clause.
-use Rattle.pr_interference.proofs.Common.{◌≡◌, ℕ, Bool, true, false, ◌&&◌, ◌⊎◌, List, if◌then◌else◌, ◌==◌, Some, None, Option, sym, refl, ap, ◌∙◌, subst, inl, inr, arith, false≢true, and_parts, nat_tests, Command, Kind, Plain, is_kind, kind_of, IsKey, Held, request_looks, UnitState, is_declared, is_action, AreDeclared, names, Action, number_in, purpose_of_preempt, purpose_of, Purpose, Register, Unregister, Reserve, Release, Clear, PreemptAll, Preempt, purpose_for, eqb-true}
+use Rattle.pr_interference.proofs.Common.{◌≡◌, ℕ, Bool, true, false, ◌&&◌, ◌⊎◌, List, if◌then◌else◌, ◌==◌, Some, None, Option, sym, refl, ap, ◌∙◌, subst, inl, inr, arith, false≢true, and_parts, nat_tests, Command, Kind, Plain, is_kind, kind_of, IsKey, Held, request_looks, UnitState, is_declared, is_action, AreDeclared, names, Action, number_in, purpose_of_preempt, purpose_of, Purpose, purpose_for, eqb-true}
+use Rattle.pr_unit.specs.declared.demand.Demand.TheVariants.{Register, Unregister, Reserve, Release, Clear, PreemptAll, Preempt}
 use Rattle.pr_cdb.specs.declared.command.Command.TheVariants as command
 use Rattle.pr_registry.proofs.lemmas.Kinds.{same_kind}
 use Rattle.pr_unit.proofs.lemmas.UnitStates.Releases.{HasNoEffect, held_or_unreleased}

@@ -1,5 +1,5 @@
 -- A command of each clause, with the sender's own key; and which commands are refused for their key.
-use Rattle.pr_interference.proofs.Common.{◌≡◌, ℕ, ◌<◌, Bool, true, false, not, ◌&&◌, ◌||◌, List, if◌then◌else◌, ◌==◌, Some, None, Option, sym, refl, ap, ◌∙◌, subst, false≢true, and_from, Command, Kind, Plain, is_kind, State, key_of, kind_of, IsKey, Held, request_looks, is_declared, is_action, AreDeclared, names, Action, number_in, purpose_of_preempt, purpose_of, Purpose, Register, Unregister, Reserve, Release, Clear, PreemptAll, Preempt, purpose_for, eq-eqb, eqb-true}
+use Rattle.pr_interference.proofs.Common.{◌≡◌, ℕ, ◌<◌, Bool, true, false, not, ◌&&◌, ◌||◌, List, if◌then◌else◌, ◌==◌, Some, None, Option, sym, refl, ap, ◌∙◌, subst, false≢true, and_from, Command, Kind, Plain, is_kind, State, key_of, kind_of, IsKey, Held, request_looks, is_declared, is_action, AreDeclared, names, Action, number_in, purpose_of_preempt, purpose_of, Purpose, purpose_for, eq-eqb, eqb-true}
 use Rattle.std.proofs.Common.{◌^◌, lit<}
 use Rattle.pr_cdb.specs.declared.command.Command.TheVariants as command
 use Rattle.pr_cdb.specs.Kinds.{code_of}
@@ -9,7 +9,7 @@ use Rattle.pr_unit.specs.Demands.{is_refused, is_in_range, registering}
 use Rattle.pr_roles.specs.declared.role.Action.TheVariants as action
 use Rattle.pr_script.specs.Grammar.{is_written_key}
 use Rattle.pr_unit.specs.declared.demand.Demand.TheVariants as purpose
-use Rattle.pr_unit.specs.declared.demand.Demand.TheVariants.{Look}
+use Rattle.pr_unit.specs.declared.demand.Demand.TheVariants.{Look, Register, Unregister, Reserve, Release, Clear, PreemptAll, Preempt}
 use Rattle.pr_interference.specs.inside.Clauses.{refuses_strangers}
 use Rattle.pr_interference.proofs.lemmas.Clauses.Commands.{declared_key, registers_key, preempts_as}
 use Rattle.pr_unit.proofs.lemmas.Demands.{free_parts}

@@ -1,5 +1,6 @@
 -- What a clause leads to under one reservation, whatever its sender's standing.
-use Rattle.pr_interference.proofs.Common.{◌≡◌, ℕ, suc, ◌+◌, ◌<◌, ◌≤◌, Bool, true, false, ◌||◌, ◌⊎◌, List, [], ◌∷◌, length, if◌then◌else◌, ◌==◌, Some, None, Option, sym, refl, ap, ◌∙◌, subst, inl, inr, arith, false≢true, kind_of, Held, UnitState, is_declared, is_action, Action, Clause, view_in, Scope, Item, Registration, IsSo, Possibilities, one_registration, number_in, purpose_of_preempt, Place, Purpose, Register, Unregister, Reserve, Release, Clear, PreemptAll, Preempt, Adds, adds_both, same_reservation, Onlooker, purpose_for, StandingLeads, PlaceLeads, IsWatched, MOST_KEYS}
+use Rattle.pr_interference.proofs.Common.{◌≡◌, ℕ, suc, ◌+◌, ◌<◌, ◌≤◌, Bool, true, false, ◌||◌, ◌⊎◌, List, [], ◌∷◌, length, if◌then◌else◌, ◌==◌, Some, None, Option, sym, refl, ap, ◌∙◌, subst, inl, inr, arith, false≢true, kind_of, Held, UnitState, is_declared, is_action, Action, Clause, view_in, Scope, Item, Registration, IsSo, Possibilities, one_registration, number_in, purpose_of_preempt, Place, Purpose, Adds, adds_both, same_reservation, Onlooker, purpose_for, StandingLeads, PlaceLeads, IsWatched, MOST_KEYS}
+use Rattle.pr_unit.specs.declared.demand.Demand.TheVariants.{Register, Unregister, Reserve, Release, Clear, PreemptAll, Preempt}
 use Rattle.std.proofs.Common.{cond}
 use Rattle.std.specs.List.{list_any, position_from}
 use Rattle.std.specs.Option.{option_map_or}

@@ -1,5 +1,6 @@
 -- The reach of each clause, and what is possible within it.
-use Rattle.pr_interference.proofs.Common.{◌≡◌, ℕ, zero, suc, ◌<◌, ◌≤◌, Bool, true, false, not, ◌&&◌, ◌||◌, ◌≢◌, ◌⊎◌, List, length, if◌then◌else◌, ◌==◌, slice_index_or, bit_or, Some, None, Option, sym, refl, ap, ◌∙◌, subst, inl, inr, arith, false≢true, and_parts, eqb_tells, nat_tests, has_wide, has, BitSet, MOST_NEXUSES, Kind, is_kind, is_told_of_loss, is_held_by_all, key_of, is_registered, kind_of, new_reservation, IsKey, Held, One, UnitState, is_action, names, holds, Action, Clause, has_at, view_in, Scope, number_of, Item, Registration, Reservation, Attentions, IsSo, IsPossible, Shows, Possibilities, one_registration, one_attentions, number_in, purpose_of_preempt, Place, Purpose, Register, Unregister, Reserve, Release, Clear, PreemptAll, Preempt, Allows, Adds, same_reservation, few_keys, Onlooker, Reach, purpose_for, PlaceLeads, FirstLeads, IsWatched, IsOnlooking, ClauseLeaves, ATTENTION_SETS, MOST_KEYS, or_left}
+use Rattle.pr_interference.proofs.Common.{◌≡◌, ℕ, zero, suc, ◌<◌, ◌≤◌, Bool, true, false, not, ◌&&◌, ◌||◌, ◌≢◌, ◌⊎◌, List, length, if◌then◌else◌, ◌==◌, slice_index_or, bit_or, Some, None, Option, sym, refl, ap, ◌∙◌, subst, inl, inr, arith, false≢true, and_parts, eqb_tells, nat_tests, has_wide, has, BitSet, MOST_NEXUSES, Kind, is_kind, is_told_of_loss, is_held_by_all, key_of, is_registered, kind_of, new_reservation, IsKey, Held, One, UnitState, is_action, names, holds, Action, Clause, has_at, view_in, Scope, number_of, Item, Registration, Reservation, Attentions, IsSo, IsPossible, Shows, Possibilities, one_registration, one_attentions, number_in, purpose_of_preempt, Place, Purpose, Allows, Adds, same_reservation, few_keys, Onlooker, Reach, purpose_for, PlaceLeads, FirstLeads, IsWatched, IsOnlooking, ClauseLeaves, ATTENTION_SETS, MOST_KEYS, or_left}
+use Rattle.pr_unit.specs.declared.demand.Demand.TheVariants.{Register, Unregister, Reserve, Release, Clear, PreemptAll, Preempt}
 use Rattle.std.specs.List.{All as Each}
 use Rattle.std.proofs.lemmas.Bool.{cases_lt, or_right}
 use Rattle.std.proofs.lemmas.Option.{same_Some, slice_get_within, get_or_from_slice_get}

@@ -1,5 +1,6 @@
 -- Whatever becomes another by a service action is in its reach.
-use Rattle.pr_interference.proofs.Common.{◌≡◌, ℕ, zero, suc, ◌≤◌, Bool, true, false, not, ◌&&◌, ◌||◌, ◌≢◌, ◌⊎◌, length, if◌then◌else◌, ◌==◌, bit_or, Some, None, Option, sym, refl, ap, ◌∙◌, subst, inl, inr, arith, false≢true, and_parts, and_from, eqb_tells, nat_tests, has_wide, has, Kind, is_kind, is_told_of_loss, is_held_by_all, State, key_of, is_registered, new_reservation, Held, One, UnitState, Scope, number_of, Registration, IsSo, Unregister, is_pending_after, contains-told, Reach, MOST_KEYS, or_left}
+use Rattle.pr_interference.proofs.Common.{◌≡◌, ℕ, zero, suc, ◌≤◌, Bool, true, false, not, ◌&&◌, ◌||◌, ◌≢◌, ◌⊎◌, length, if◌then◌else◌, ◌==◌, bit_or, Some, None, Option, sym, refl, ap, ◌∙◌, subst, inl, inr, arith, false≢true, and_parts, and_from, eqb_tells, nat_tests, has_wide, has, Kind, is_kind, is_told_of_loss, is_held_by_all, State, key_of, is_registered, new_reservation, Held, One, UnitState, Scope, number_of, Registration, IsSo, is_pending_after, contains-told, Reach, MOST_KEYS, or_left}
+use Rattle.pr_unit.specs.declared.demand.Demand.TheVariants.{Unregister}
 use Rattle.std.proofs.Common.{is_some, unwrap_or}
 use Rattle.std.specs.Int.Bits.{or_zero_r}
 use Rattle.std.specs.FinSet as set

@@ -1,4 +1,5 @@
-use Rattle.pr_regions.proofs.Common.{refl, Look}
+use Rattle.pr_regions.proofs.Common.{refl}
+use Rattle.pr_unit.specs.declared.demand.Demand.TheVariants.{Look}
 use Rattle.pr_regions.proofs.lemmas.Parts.Endings.{same_ends}
 use Rattle.pr_regions.proofs.endings.look_ending.Goals as goal
 

@@ -1,5 +1,6 @@
 -- The branches of a command that preempts a key.
-use Rattle.pr_regions.proofs.Common.{◌≡◌, ℕ, ◌≤◌, Bool, true, false, not, ◌&&◌, ◌||◌, ◌≢◌, ◌⊎◌, [], ◌∷◌, is_some, if◌then◌else◌, ◌==◌, Some, None, Option, sym, refl, ap, ◌∙◌, subst, inl, inr, arith, not-true, false≢true, nat_tests, eqb_tells, Command, Kind, is_held_by_all, is_kind, held_by_rest, is_key, Keys, without, hosts_with, is_empty, is_registered, key_of, new_reservation, Held, One, All, UnitState, HasSomebody, Scope, number_of, key_at, Registration, IsSo, HasNumber, Meets, HasRoom, IsCovered, Preempt, Standing, Branch, Transition, Conflict, Good, Does, AlwaysEnds, never, any, only, but, another, told_but, lost_if, is_named, Leaves, EndsIn, Tell, ne_eqb}
+use Rattle.pr_regions.proofs.Common.{◌≡◌, ℕ, ◌≤◌, Bool, true, false, not, ◌&&◌, ◌||◌, ◌≢◌, ◌⊎◌, [], ◌∷◌, is_some, if◌then◌else◌, ◌==◌, Some, None, Option, sym, refl, ap, ◌∙◌, subst, inl, inr, arith, not-true, false≢true, nat_tests, eqb_tells, Command, Kind, is_held_by_all, is_kind, held_by_rest, is_key, Keys, without, hosts_with, is_empty, is_registered, key_of, new_reservation, Held, One, All, UnitState, HasSomebody, Scope, number_of, key_at, Registration, IsSo, HasNumber, Meets, HasRoom, IsCovered, Standing, Branch, Transition, Conflict, Good, Does, AlwaysEnds, never, any, only, but, another, told_but, lost_if, is_named, Leaves, EndsIn, Tell, ne_eqb}
+use Rattle.pr_unit.specs.declared.demand.Demand.TheVariants.{Preempt}
 use Rattle.std.specs.FinMap as map
 use Rattle.pr_regions.specs.inside.Parts.{free_or, IsNotAnothers}
 use Rattle.pr_regions.proofs.lemmas.Showing.Numbers.{is_some-key_at}

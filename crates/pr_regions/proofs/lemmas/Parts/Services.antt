@@ -1,5 +1,6 @@
 -- How the service actions that do not depend on who else is registered end.
-use Rattle.pr_regions.proofs.Common.{◌≡◌, ℕ, true, false, not, ◌&&◌, if◌then◌else◌, Some, None, Option, sym, refl, ap, ◌∙◌, false≢true, Command, Kind, is_held_by_all, is_told_of_loss, is_kind, ReplacesAll, preempt_case, Keys, kind_of, new_reservation, Held, All, illegal, UnitState, Scope, number_of, HasNumber, Meets, HasRoom, Ends, Register, Reserve, Release, Clear, PreemptAll, Standing, Transition, Conflict, Fault, Good, Does, AlwaysEnds, never, holds, is_of_registrant, told_if}
+use Rattle.pr_regions.proofs.Common.{◌≡◌, ℕ, true, false, not, ◌&&◌, if◌then◌else◌, Some, None, Option, sym, refl, ap, ◌∙◌, false≢true, Command, Kind, is_held_by_all, is_told_of_loss, is_kind, ReplacesAll, preempt_case, Keys, kind_of, new_reservation, Held, All, illegal, UnitState, Scope, number_of, HasNumber, Meets, HasRoom, Ends, Standing, Transition, Conflict, Fault, Good, Does, AlwaysEnds, never, holds, is_of_registrant, told_if}
+use Rattle.pr_unit.specs.declared.demand.Demand.TheVariants.{Register, Reserve, Release, Clear, PreemptAll}
 use Rattle.pr_cdb.specs.declared.codes.TheConstants.{INVALID_FIELD_IN_PARAMETER_LIST, INVALID_RELEASE_OF_PERSISTENT_RESERVATION}
 use Rattle.pr_registry.specs.Registrations.{is_holder_of, is_for_registrants}
 use Rattle.pr_registry.specs.Changes.{is_held_as, conflicts_with_reserve, is_released}

@@ -1,5 +1,6 @@
 -- How commands that read and write blocks end.
-use Rattle.pr_regions.proofs.Common.{◌≡◌, ℕ, Bool, true, false, not, List, if◌then◌else◌, Some, None, Option, sym, refl, ap, ◌∙◌, Command, Kind, Sense, no_change, State, is_registered, kind_of, Held, illegal, UnitState, Scope, number_of, HasNumber, Meets, HasRoom, Purpose, Read, Write, Standing, Transition, Conflict, Fault, Good, Does, AlwaysEnds, never, is_unregistered, holds}
+use Rattle.pr_regions.proofs.Common.{◌≡◌, ℕ, Bool, true, false, not, List, if◌then◌else◌, Some, None, Option, sym, refl, ap, ◌∙◌, Command, Kind, Sense, no_change, State, is_registered, kind_of, Held, illegal, UnitState, Scope, number_of, HasNumber, Meets, HasRoom, Purpose, Standing, Transition, Conflict, Fault, Good, Does, AlwaysEnds, never, is_unregistered, holds}
+use Rattle.pr_unit.specs.declared.demand.Demand.TheVariants.{Read, Write}
 use Rattle.std.proofs.Math.Bool.{not-not}
 use Rattle.pr_cdb.specs.declared.command.Kind.TheVariants.{WriteExclusive, ExclusiveAccess, ExclusiveAccessRegistrantsOnly, ExclusiveAccessAllRegistrants}
 use Rattle.pr_cdb.specs.declared.codes.TheConstants.{LOGICAL_BLOCK_ADDRESS_OUT_OF_RANGE}

@@ -1,5 +1,6 @@
 -- Who has the key that a PREEMPT names, and what that makes of the command.
-use Rattle.pr_regions.proofs.Common.{◌≡◌, ℕ, zero, suc, ◌<◌, ◌≤◌, Bool, true, false, not, ◌≢◌, ◌⊎◌, List, length, get_or, is_some, if◌then◌else◌, ◌==◌, Some, None, Option, sym, refl, ap, ◌∙◌, subst, inl, inr, arith, false≢true, nat_tests, eqb_tells, Command, Kind, is_kind, ReplacesAll, preempt_case, held_by_rest, is_key, Hosts, nobody, Keys, without, hosts_with, is_empty, State, is_registered, key_of, new_reservation, Held, One, All, contains-nobody, get-without, UnitState, Scope, number_of, key_at, Registration, IsSo, HasNumber, Meets, Ends, Preempt, Standing, Transition, Conflict, Good, Does, never, only, told_but, lost_if, is_named, eq-eqb}
+use Rattle.pr_regions.proofs.Common.{◌≡◌, ℕ, zero, suc, ◌<◌, ◌≤◌, Bool, true, false, not, ◌≢◌, ◌⊎◌, List, length, get_or, is_some, if◌then◌else◌, ◌==◌, Some, None, Option, sym, refl, ap, ◌∙◌, subst, inl, inr, arith, false≢true, nat_tests, eqb_tells, Command, Kind, is_kind, ReplacesAll, preempt_case, held_by_rest, is_key, Hosts, nobody, Keys, without, hosts_with, is_empty, State, is_registered, key_of, new_reservation, Held, One, All, contains-nobody, get-without, UnitState, Scope, number_of, key_at, Registration, IsSo, HasNumber, Meets, Ends, Standing, Transition, Conflict, Good, Does, never, only, told_but, lost_if, is_named, eq-eqb}
+use Rattle.pr_unit.specs.declared.demand.Demand.TheVariants.{Preempt}
 use Rattle.std.specs.FinMap as map
 use Rattle.std.specs.FinSet as set
 use Rattle.std.specs.Ordering.{nat_cmp}

@@ -1,4 +1,5 @@
-use Rattle.pr_regions.proofs.Common.{◌≡◌, sym, ◌∙◌, arith, Preempt}
+use Rattle.pr_regions.proofs.Common.{◌≡◌, sym, ◌∙◌, arith}
+use Rattle.pr_unit.specs.declared.demand.Demand.TheVariants.{Preempt}
 use Rattle.pr_regions.proofs.lemmas.Parts.Preemption.{own_single}
 use Rattle.pr_regions.proofs.lemmas.Parts.HeldPreemption.{held_by}
 use Rattle.pr_regions.proofs.preempting.preempting_single.Goals as goal

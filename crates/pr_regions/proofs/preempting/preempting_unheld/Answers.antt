@@ -1,4 +1,5 @@
-use Rattle.pr_regions.proofs.Common.{Some, None, sym, ◌∙◌, arith, Preempt, never, only}
+use Rattle.pr_regions.proofs.Common.{Some, None, sym, ◌∙◌, arith, never, only}
+use Rattle.pr_unit.specs.declared.demand.Demand.TheVariants.{Preempt}
 use Rattle.pr_regions.proofs.lemmas.Parts.Endings.{has_room}
 use Rattle.pr_regions.proofs.lemmas.Parts.Preemption.{own_unheld}
 use Rattle.pr_regions.proofs.preempting.preempting_unheld.Goals as goal

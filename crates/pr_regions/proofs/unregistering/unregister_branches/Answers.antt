@@ -1,4 +1,5 @@
-use Rattle.pr_regions.proofs.Common.{sym, ◌∙◌, Unregister}
+use Rattle.pr_regions.proofs.Common.{sym, ◌∙◌}
+use Rattle.pr_unit.specs.declared.demand.Demand.TheVariants.{Unregister}
 use Rattle.pr_regions.proofs.lemmas.Parts.Unregistration.{unregister_absent, unregister_good}
 use Rattle.pr_regions.proofs.unregistering.unregister_branches.Goals as goal
 

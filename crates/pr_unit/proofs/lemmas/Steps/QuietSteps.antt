@@ -1,8 +1,8 @@
 -- What does not end GOOD, and what only looks, changes at most what is pending for the sender.
-use Rattle.pr_unit.proofs.Common.{◌≡◌, ℕ, false, not, ◌&&◌, ◌||◌, IsTrue, ◌==◌, sym, refl, ap, ◌∙◌, subst, false≢true, and_parts, Command, Register, Reserve, Release, Clear, Preempt, Request, Plain, Faulty, power_on, reservations_preempted, reservations_released, registrations_preempted, Pairs, each_with, decision, StepBy, UnitState, effect, after_report, Decision, PowerOn, Attention, Done, or-false}
+use Rattle.pr_unit.proofs.Common.{◌≡◌, ℕ, false, not, ◌&&◌, ◌||◌, IsTrue, ◌==◌, sym, refl, ap, ◌∙◌, subst, false≢true, and_parts, Command, Request, Plain, Faulty, power_on, reservations_preempted, reservations_released, registrations_preempted, Pairs, each_with, decision, StepBy, UnitState, effect, after_report, Decision, PowerOn, Attention, Done, or-false}
 use Rattle.std.proofs.Common.{◌⊎◌, inl, inr, ne_eqb}
 use Rattle.std.specs.FinSet as set
-use Rattle.pr_cdb.specs.declared.command.Command.TheVariants.{RegisterIgnore, PreemptAbort}
+use Rattle.pr_cdb.specs.declared.command.Command.TheVariants.{RegisterIgnore, PreemptAbort, Register, Reserve, Release, Clear, Preempt}
 use Rattle.pr_registry.specs.Hosts.{nobody}
 use Rattle.pr_registry.specs.Changes.{no_change}
 use Rattle.pr_unit.specs.UnitStates.{pending_after}
