@@ -1,7 +1,7 @@
 -- Agrees with SAM-5, 'Unit attention conditions'; docs/MODEL.md, 'Attentions'.
 -- Unit attentions (SAM-5, 'Unit attention conditions'), and sets of them that are pending.
 -- A code is the additional sense code times 256, and its qualifier.
-use Rattle.std.specs.Prelude.{◌≡◌, ℕ, ◌/◌, ◌%◌, ◌≤◌, ◌==◌, Bool, true, IsTrue, List, [], ◌∷◌}
+use Rattle.std.specs.Prelude.{◌≡◌, ℕ, ◌/◌, ◌%◌, ◌≤◌, ◌==◌, Bool, true, IsTrue, List, [], ◌∷◌, map, find, Option}
 use Rattle.std.specs.Ordering.{nat_cmp}
 use Rattle.std.specs.FinSet as set
 use Rattle.std.specs.List.{list_any}
@@ -25,18 +25,26 @@ reservations_released = RESERVATIONS_RELEASED
 abbrev pub registrations_preempted : ℕ
 registrations_preempted = REGISTRATIONS_PREEMPTED
 
--- the four codes, the lowest first
-abbrev pub attentions : List ℕ
-attentions = power_on ∷ reservations_preempted ∷ reservations_released ∷ registrations_preempted ∷ []
-
-abbrev pub is_attention : ℕ → Bool
-is_attention code = list_any (λ a. code == a) attentions
-
 abbrev pub code_of : Attention → ℕ
 code_of PowerOn = power_on
 code_of ReservationsPreempted = reservations_preempted
 code_of ReservationsReleased = reservations_released
 code_of RegistrationsPreempted = registrations_preempted
+
+-- all of them, the lowest code first
+abbrev pub each_attention : List Attention
+each_attention = PowerOn ∷ ReservationsPreempted ∷ ReservationsReleased ∷ RegistrationsPreempted ∷ []
+
+-- the four codes
+abbrev pub attentions : List ℕ
+attentions = map code_of each_attention
+
+abbrev pub is_attention : ℕ → Bool
+is_attention code = list_any (λ a. code == a) attentions
+
+-- the one with this code
+abbrev pub attention_with : ℕ → Option Attention
+attention_with code = find (λ a. code == code_of a) each_attention
 
 -- UNIT ATTENTION with this code
 abbrev pub attention_sense : ℕ → Sense
@@ -54,6 +62,10 @@ no_code = set.empty
 -- every member is one of the four codes
 abbrev pub AreAttentions : Codes → Type 0
 AreAttentions codes = (code : ℕ) → set.contains codes code ≡ true → IsTrue (is_attention code)
+
+-- one of the four is there
+abbrev pub has_any : Codes → Bool
+has_any codes = list_any (set.contains codes) attentions
 
 -- of the codes, this is the lowest
 pub record IsLowest (codes : Codes) (code : ℕ) : Type 0 where

@@ -7,16 +7,28 @@ ghost use Rattle.pr_attention.specs.Flagged.{place_of};
 use crate::Attention;
 use bitflags::{Flag, Flags, bitflag_items};
 
+/// The bit of a power on in the number of a set of attentions.
+pub const POWER_ON_BIT: u8 = 1;
+
+/// The bit of RESERVATIONS PREEMPTED there.
+pub const RESERVATIONS_PREEMPTED_BIT: u8 = 2;
+
+/// The bit of RESERVATIONS RELEASED there.
+pub const RESERVATIONS_RELEASED_BIT: u8 = 4;
+
+/// The bit of REGISTRATIONS PREEMPTED there.
+pub const REGISTRATIONS_PREEMPTED_BIT: u8 = 8;
+
 /// A set of attentions, with a bit for each.
 #[derive(Clone, Copy, Debug, PartialEq, Eq)]
 pub(crate) struct AttentionFlags(u8);
 
 bitflag_items! {
     impl AttentionFlags: u8 {
-        const POWER_ON = 1;
-        const RESERVATIONS_PREEMPTED = 2;
-        const RESERVATIONS_RELEASED = 4;
-        const REGISTRATIONS_PREEMPTED = 8;
+        const POWER_ON = POWER_ON_BIT;
+        const RESERVATIONS_PREEMPTED = RESERVATIONS_PREEMPTED_BIT;
+        const RESERVATIONS_RELEASED = RESERVATIONS_RELEASED_BIT;
+        const REGISTRATIONS_PREEMPTED = REGISTRATIONS_PREEMPTED_BIT;
     }
 }
 

@@ -10,4 +10,8 @@ mod flags;
 mod pending;
 
 pub use attention::Attention;
+pub use flags::{
+    POWER_ON_BIT, REGISTRATIONS_PREEMPTED_BIT, RESERVATIONS_PREEMPTED_BIT,
+    RESERVATIONS_RELEASED_BIT,
+};
 pub use pending::Pending;

@@ -1,8 +1,10 @@
 //! The attentions that are pending for a host.
 
-ghost use Rattle.std.specs.Prelude.{◌≡◌, ◌↔◌, IsTrue, IsNone, IfSome, IfNone};
+ghost use Rattle.std.specs.Prelude.{◌≡◌, ◌↔◌, ◌<◌, not, IsTrue, IsNone, IfSome, IfNone};
 ghost use Rattle.std.specs.FinSet as set;
-ghost use Rattle.pr_attention.specs.Attentions.{code_of, no_code, AreAttentions, IsLowest, ReportsLowest};
+ghost use Rattle.pr_sets.specs.Numbers.{Within};
+ghost use Rattle.pr_attention.specs.Attentions.{code_of, no_code, has_any, AreAttentions, IsLowest, ReportsLowest};
+ghost use Rattle.pr_attention.specs.Flagged.{codes_of};
 
 use crate::Attention;
 use crate::flags::{AttentionFlags, flag};
@@ -42,6 +44,15 @@ impl Pending {
         }
     }
 
+    /// Those whose bits are set in the number. A higher bit is of none.
+    pub fn of_bits(bits: u8) -> Self
+        ensures { result ≡ codes_of bits }
+    {
+        Pending {
+            flags: AttentionFlags::from_bits_truncate(bits),
+        }
+    }
+
     /// An equal one.
     pub fn copy(&self) -> Self
         ensures value { result ≡ self.now }
@@ -76,8 +87,24 @@ impl Pending {
     pub fn is_empty(&self) -> bool
         ensures value { IsTrue result ↔ (self.now ≡ no_code) }
         ensures members { AreAttentions self.now }
+        ensures any { result ≡ not (has_any self.now) }
     {
         self.flags.is_empty()
+    }
+
+    /// Whether each attention of this set is in the other.
+    pub fn is_within(&self, other: &Pending) -> bool
+        ensures { IsTrue result ↔ Within self.now other.now }
+    {
+        other.flags.contains(self.flags)
+    }
+
+    /// A number with the bit of each attention of the set.
+    pub fn bits(&self) -> u8
+        ensures few { result < 16 }
+        ensures codes { codes_of result ≡ self.now }
+    {
+        self.flags.bits()
     }
 
     /// The attention with the lowest code of those that are pending.

@@ -1,9 +1,9 @@
 -- Agrees with docs/FORMATS.md, 'Witness text'.
 -- The text of a witness: what is broken, the state from which the run starts, and the run as a trace has it.
-use Rattle.std.specs.Prelude.{ℕ, ◌==◌, Bool, true, false, ◌||◌, if◌then◌else◌, List, [], ◌∷◌, ◌++◌, codes, map, slice_index, Option, None, Some}
+use Rattle.std.specs.Prelude.{ℕ, ◌==◌, Bool, true, false, if◌then◌else◌, List, [], ◌∷◌, ◌++◌, codes, map, slice_index, Option, None, Some}
 use Rattle.std.specs.Fmt.{decimal}
-use Rattle.std.specs.List.{flat_map, range_with_len}
-use Rattle.pr_attention.specs.Attentions.{power_on, reservations_preempted, reservations_released, registrations_preempted}
+use Rattle.std.specs.List.{flat_map, list_any, range_with_len}
+use Rattle.pr_attention.specs.Attentions.{attentions, code_of, each_attention}
 use Rattle.pr_registry.specs.Registrations.{State, key_of}
 use Rattle.pr_registry.specs.declared.held.Held.{Held}
 use Rattle.pr_unit.specs.UnitStates.{UnitState, is_pending}
@@ -53,21 +53,16 @@ start_line names unit host = line (codes "start") (name_of names host ∷ start_
 abbrev pub code_word : (ℕ → Bool) → ℕ → List ℕ
 code_word pending code = if pending code then codes " " ++ attention_word code else []
 
-abbrev pub has_any : (ℕ → Bool) → Bool
-has_any pending = pending power_on || pending reservations_preempted || pending reservations_released || pending registrations_preempted
-
--- the codes that are pending, the lowest first, and the line's end
+-- the codes that are pending, the lowest first
 abbrev pub code_words : (ℕ → Bool) → List ℕ
-code_words pending =
-    code_word pending power_on ++ (code_word pending reservations_preempted
-    ++ (code_word pending reservations_released ++ (code_word pending registrations_preempted ++ codes "\n")))
+code_words pending = flat_map (λ a. code_word pending (code_of a)) each_attention
 
 abbrev pub some_pending_line : List ℕ → (ℕ → Bool) → List ℕ
-some_pending_line name pending = codes "pending " ++ (name ++ code_words pending)
+some_pending_line name pending = codes "pending " ++ (name ++ (code_words pending ++ codes "\n"))
 
 -- there is no line where nothing is pending
 abbrev pub pending_line : List ℕ → (ℕ → Bool) → List ℕ
-pending_line name pending = if has_any pending then some_pending_line name pending else []
+pending_line name pending = if list_any pending attentions then some_pending_line name pending else []
 
 abbrev pub held_line : List (List ℕ) → Option Held → List ℕ
 held_line names held = line (codes "reservation") (held_word names held ∷ [])

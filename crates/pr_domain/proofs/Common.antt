@@ -58,7 +58,7 @@ pub use Rattle.pr_regions.proofs.lemmas.Portions.GatheredStates.{same_reservatio
 pub use Rattle.pr_domain.specs.Landings.{IsClass, IsLanding}
 pub use Rattle.pr_domain.specs.declared.reporting.Unserved.{Unserved}
 pub use Rattle.pr_domain.specs.declared.tally.Tally.{Tally}
-pub use Rattle.pr_domain.specs.inside.Beginning.{may_have, has_reservation, stays, AreAlternatives}
+pub use Rattle.pr_domain.specs.inside.Beginning.{may_have, has_reservation, AreAlternatives}
 pub use Rattle.pr_domain.specs.inside.Reporting.{AreReported, HasOutcome, AreKept, AreMore, Ending, Reports, Conflicts, Fails, EndsGood, Refuses, refusal, Ends, landing_at, LandsBy, LandsGoodBelow, IsOfWay}
 pub use Rattle.pr_domain.specs.inside.Sendings.{view_of_sending, IsOfWayAt, LandsOf}
 pub use Rattle.pr_domain.specs.inside.Tallies.{IsRegistered, has_part, has_tallied, arm_of, Leaves, IsFound, Grows, IsRight, IsTally, OneBelow, IsOfPlace, IsInOne, HasBoth, HasOneOf, IsUnder, IsReserved, IsOwners, scope_at, IsOfScope, IsReadAt, IsReadFirst}

@@ -7,20 +7,21 @@ ghost use Rattle.pr_roles.specs.declared.limits.TheConstants.{MOST_KEYS};
 ghost use Rattle.pr_roles.specs.Fitting.{Fits as FitsAll, is_reservation};
 ghost use Rattle.pr_roles.specs.Scenarios.{scenario_of};
 ghost use Rattle.pr_sets.specs.BitSets.{has};
+ghost use Rattle.pr_sets.specs.Numbers.{Within};
 ghost use Rattle.pr_sets.specs.Wides.{has_wide};
 ghost use Rattle.pr_views.specs.Views.{Fits};
 ghost use Rattle.pr_views.specs.Portions.{has_at};
 ghost use Rattle.pr_views.specs.Rooms.{view_of, AreInRange};
 ghost use Rattle.pr_domain.specs.Starting.{IsOfStart};
-ghost use Rattle.pr_domain.specs.inside.Beginning.{AreAmong, stays, registration_in, has_alternative, may_have, has_reservation};
+ghost use Rattle.pr_domain.specs.inside.Beginning.{registration_in, has_alternative, may_have, has_reservation};
 
-use pr_attention::{Attention, Pending};
+use pr_attention::Pending;
 use pr_cdb::codes::MOST_NEXUSES;
 use pr_regions::{kept, number_in};
 use pr_registry::Held;
 use pr_roles::{Nexus, Parts, Scenario};
 use pr_sets::{BitSet, ViewSet, Wide};
-use pr_views::{ATTENTION_SETS, Possibilities, ViewOf, is_among, reservation_number};
+use pr_views::{ATTENTION_SETS, Possibilities, ViewOf, reservation_number};
 use std::alloc::{AllocError, Global};
 
 /// The view of the states that the scenario may start from: it shows each of them, and has nothing that is so in none.
@@ -130,32 +131,13 @@ fn reservations(hosts: u8, reservations: &[Option<Held>]) -> Wide
 fn sets_within(written: &Pending) -> BitSet
     ensures few { (q : ℕ) → has result q ≡ true → q < ATTENTION_SETS }
     ensures within { (q : ℕ) → q < ATTENTION_SETS
-        → (has result q ≡ true) ↔ AreAmong (codes_of q) written.now }
+        → (has result q ≡ true) ↔ Within (codes_of q) written.now }
 {
     let mut sets = BitSet::none();
     for attentions in 0..ATTENTION_SETS {
-        if is_within(attentions, written) {
+        if Pending::of_bits(attentions).is_within(written) {
             sets = sets.with(attentions);
         }
     }
     sets
-}
-
-// Whether each of these attentions is a written one.
-fn is_within(attentions: u8, written: &Pending) -> bool
-    ensures { IsTrue result ↔ AreAmong (codes_of attentions) written.now }
-{
-    for attention in Attention::ALL {
-        if !stays(attention, attentions, written) {
-            return false;
-        }
-    }
-    true
-}
-
-// Whether the attention is a written one, if it is one of these.
-fn stays(attention: Attention, attentions: u8, written: &Pending) -> bool
-    ensures { result ≡ stays attentions written.now attention }
-{
-    !is_among(attention, attentions) || written.has(attention)
 }

@@ -6,12 +6,12 @@ ghost use Rattle.pr_regions.specs.Regions.{mark as mark_of};
 ghost use Rattle.pr_regions.specs.Images.{IsImage};
 ghost use Rattle.pr_interference.specs.inside.Marks.{first, AreTold};
 
+use pr_attention::{
+    REGISTRATIONS_PREEMPTED_BIT, RESERVATIONS_PREEMPTED_BIT, RESERVATIONS_RELEASED_BIT,
+};
 use pr_regions::Transition;
 use pr_sets::BitSet;
-use pr_views::{
-    ATTENTION_SETS, MOST_REGISTRATIONS, REGISTRATIONS_PREEMPTED_BIT, RESERVATIONS_PREEMPTED_BIT,
-    RESERVATIONS_RELEASED_BIT,
-};
+use pr_views::{ATTENTION_SETS, MOST_REGISTRATIONS};
 
 /// What becomes of the attentions pending for an owner that has one of these registrations.
 pub(crate) fn attentions_after(owners: BitSet, pending: BitSet, change: &Transition) -> BitSet

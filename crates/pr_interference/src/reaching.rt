@@ -24,16 +24,16 @@ use crate::onlooker::Onlooker;
 use crate::reach::{
     Reach, free_if, keys_but_if, keys_if, lacks, lacks_at, lacks_wide, meet, unreserved_if,
 };
+use pr_attention::{
+    REGISTRATIONS_PREEMPTED_BIT, RESERVATIONS_PREEMPTED_BIT, RESERVATIONS_RELEASED_BIT,
+};
 use pr_cdb::Kind;
 use pr_cdb::codes::MOST_NEXUSES;
 use pr_regions::{every_key, number_in};
 use pr_registry::new_reservation;
 use pr_roles::{Action, Clause};
 use pr_sets::{BitSet, Wide};
-use pr_views::{
-    Possibilities, REGISTRATIONS_PREEMPTED_BIT, RESERVATIONS_PREEMPTED_BIT,
-    RESERVATIONS_RELEASED_BIT, reservation_number,
-};
+use pr_views::{Possibilities, reservation_number};
 
 impl Onlooker<'_> {
     /// Whether a command that reaches no more than this may leave what the answer is without, beside what was so before it.

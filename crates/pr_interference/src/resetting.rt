@@ -9,9 +9,10 @@ ghost use Rattle.pr_views.specs.Rooms.{scope_of, view_of, AreAlike, AreInRange};
 ghost use Rattle.pr_interference.specs.Interference.{IsAfterReset};
 
 use crate::marking::attentions_with;
+use pr_attention::POWER_ON_BIT;
 use pr_regions::kept;
 use pr_sets::ViewSet;
-use pr_views::{POWER_ON_BIT, Possibilities, ViewOf};
+use pr_views::{Possibilities, ViewOf};
 use std::alloc::{AllocError, Global};
 
 /// The view of the states that a reset of the unit leads to from a shown one: power on is pending for the owner, and all

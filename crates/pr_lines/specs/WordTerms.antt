@@ -1,13 +1,12 @@
 -- Agrees with docs/FORMATS.md, 'Terms'.
 -- The terms that words are: names, keys, numbers, types and codes.
-use Rattle.std.specs.Prelude.{ℕ, ◌+◌, ◌-◌, ◌*◌, ◌==◌, ◌&&◌, nat_lt, nat_le, if◌then◌else◌, List, [], ◌∷◌, find, length, take, drop, slice_index, codes, Option, Some, None, unwrap_or, fold, bytes_eq}
+use Rattle.std.specs.Prelude.{ℕ, ◌+◌, ◌-◌, ◌*◌, ◌==◌, ◌&&◌, nat_lt, nat_le, if◌then◌else◌, List, [], ◌∷◌, length, take, drop, slice_index, codes, Option, Some, None, unwrap_or, fold, bytes_eq}
 use Rattle.std.specs.List.{list_all}
 use Rattle.pr_cdb.specs.declared.command.Kind.{Kind}
 use Rattle.pr_cdb.specs.declared.reply.Sense.{Sense}
 use Rattle.pr_cdb.specs.Kinds.{kind_of_code}
-use Rattle.pr_attention.specs.Attentions.{code_of as attention_code}
+use Rattle.pr_attention.specs.Attentions.{attention_with}
 use Rattle.pr_attention.specs.declared.attention.Attention.{Attention}
-use Rattle.pr_attention.specs.declared.attention.Attention.TheVariants.{PowerOn, ReservationsPreempted, ReservationsReleased, RegistrationsPreempted}
 use Rattle.pr_script.specs.Chain.{◌>>=◌}
 use Rattle.pr_script.specs.Digits.{digit_value, digit_of, byte_of}
 use Rattle.pr_script.specs.Names.{is_name}
@@ -65,16 +64,12 @@ amount_of most word =
 unfoldable pub kind_of : List ℕ → Option Kind
 kind_of word = if length word == 1 then kind_of_code (slice_index word 0 - 48) else None
 
--- the attention with this additional sense code and qualifier
-abbrev pub attention_of : ℕ → ℕ → Option Attention
-attention_of asc ascq = find (λ a. asc * 256 + ascq == attention_code a) (PowerOn ∷ ReservationsPreempted ∷ ReservationsReleased ∷ RegistrationsPreempted ∷ [])
-
 -- the attention that a word is: two digits, a slash and two digits
 unfoldable pub code_of : List ℕ → Option Attention
 code_of word =
     if length word == 5 && slice_index word 2 == character (codes "/") then
     (byte_of (slice_index word 0) (slice_index word 1) >>= λ asc.
-    byte_of (slice_index word 3) (slice_index word 4) >>= λ ascq. attention_of asc ascq)
+    byte_of (slice_index word 3) (slice_index word 4) >>= λ ascq. attention_with (asc * 256 + ascq))
     else None
 
 -- the sense that a word is: one, two and two digits, with slashes between them

@@ -1,12 +1,9 @@
 //! The terms that words are: names, keys, numbers, types and codes.
 
 ghost use Rattle.std.specs.Prelude.{◌≡◌, ◌≤◌, ◌<◌, ◌^◌, length, option_map, option_copied, IfSome};
-ghost use Rattle.pr_lines.specs.WordTerms.{number, value_after, without_prefix, hexadecimal, name_of, key_or_zero, key_of, generation_of, count_of, amount_of, kind_of, attention_of, code_of, sense_of};
+ghost use Rattle.pr_lines.specs.WordTerms.{number, value_after, without_prefix, hexadecimal, name_of, key_or_zero, key_of, generation_of, count_of, amount_of, kind_of, code_of, sense_of};
 
 use pr_attention::Attention;
-use pr_cdb::codes::{
-    POWER_ON, REGISTRATIONS_PREEMPTED, RESERVATIONS_PREEMPTED, RESERVATIONS_RELEASED,
-};
 use pr_cdb::{Kind, Sense};
 use pr_roles::Word;
 use pr_script::{byte_of, digit_of, digit_value, is_name};
@@ -151,20 +148,7 @@ pub fn code_of(word: &[u8]) -> Option<Attention>
     }
     let asc = byte_of(word[0], word[1])?;
     let ascq = byte_of(word[3], word[4])?;
-    attention_of(asc, ascq)
-}
-
-// The attention with this additional sense code and qualifier.
-fn attention_of(asc: u8, ascq: u8) -> Option<Attention>
-    ensures { result ≡ attention_of asc ascq }
-{
-    match u16::from(asc) * 256 + u16::from(ascq) {
-        POWER_ON => Some(Attention::PowerOn),
-        RESERVATIONS_PREEMPTED => Some(Attention::ReservationsPreempted),
-        RESERVATIONS_RELEASED => Some(Attention::ReservationsReleased),
-        REGISTRATIONS_PREEMPTED => Some(Attention::RegistrationsPreempted),
-        _ => None,
-    }
+    Attention::of_code(u16::from(asc) * 256 + u16::from(ascq))
 }
 
 /// The sense that the word is: one, two and two hexadecimal digits, with slashes between them.

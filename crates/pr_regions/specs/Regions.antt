@@ -13,7 +13,7 @@ use Rattle.pr_unit.specs.Demands.{is_refused, named}
 use Rattle.pr_roles.specs.declared.limits.TheConstants.{MOST_KEYS}
 use Rattle.pr_sets.specs.declared.bit_set.BitSet.{BitSet}
 use Rattle.pr_sets.specs.BitSets.{has}
-use Rattle.pr_views.specs.declared.view.TheConstants.{RESERVATIONS_PREEMPTED_BIT, RESERVATIONS_RELEASED_BIT, REGISTRATIONS_PREEMPTED_BIT}
+use Rattle.pr_attention.specs.declared.flags.TheConstants.{RESERVATIONS_PREEMPTED_BIT, RESERVATIONS_RELEASED_BIT, REGISTRATIONS_PREEMPTED_BIT}
 use Rattle.pr_views.specs.Possibilities.{Scope, IsScope, Registration, Reservation, Attentions, IsSo, count_of_reservations}
 use Rattle.pr_views.specs.Portions.{HasSomebody}
 use Rattle.pr_regions.specs.declared.region.Region.{Region}

@@ -7,8 +7,7 @@ use Rattle.std.specs.Option.{option_map_or}
 use Rattle.pr_registry.specs.declared.held.Held.{Held}
 use Rattle.pr_registry.specs.declared.held.Held.TheVariants.{One, All as Everybody}
 use Rattle.pr_attention.specs.declared.attention.Attention.{Attention}
-use Rattle.pr_attention.specs.declared.attention.Attention.TheVariants.{PowerOn, ReservationsPreempted, ReservationsReleased, RegistrationsPreempted}
-use Rattle.pr_attention.specs.Attentions.{Codes, code_of, AreAttentions}
+use Rattle.pr_attention.specs.Attentions.{Codes, code_of, AreAttentions, each_attention}
 use Rattle.pr_roles.specs.Scenarios.{Scenario, Nexus, Task, Scripted, Planned}
 use Rattle.pr_roles.specs.Starts.{CanStart}
 use Rattle.pr_roles.specs.Fitting.{Fits}
@@ -30,7 +29,7 @@ task_line name (Scripted script budget) = declares (nexus_line false name)
 task_line name (Planned commands) = declares (nexus_line true name)
 
 abbrev pub attentions_in : Codes → List Attention
-attentions_in codes = filter (λ a. set.contains codes (code_of a)) (PowerOn ∷ ReservationsPreempted ∷ ReservationsReleased ∷ RegistrationsPreempted ∷ [])
+attentions_in codes = filter (λ a. set.contains codes (code_of a)) each_attention
 
 -- where nothing is pending, nothing is written
 abbrev pub pending_said : ℕ → List ℕ → List Attention → List Line

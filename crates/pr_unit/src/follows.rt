@@ -56,31 +56,12 @@ fn follow_any_report(
     ensures { IsAnyReported (unit_of registry.now pendings.old) host request reply.now result
         (unit_of registry.now pendings.new) }
 {
-    follow_report(registry, pendings, host, request, reply, Attention::PowerOn)
-        || follow_report(
-            registry,
-            pendings,
-            host,
-            request,
-            reply,
-            Attention::ReservationsPreempted,
-        )
-        || follow_report(
-            registry,
-            pendings,
-            host,
-            request,
-            reply,
-            Attention::ReservationsReleased,
-        )
-        || follow_report(
-            registry,
-            pendings,
-            host,
-            request,
-            reply,
-            Attention::RegistrationsPreempted,
-        )
+    for attention in Attention::ALL {
+        if follow_report(registry, pendings, host, request, reply, attention) {
+            return true;
+        }
+    }
+    false
 }
 
 // Follows a reply that reports this attention.

@@ -36,10 +36,9 @@ pub(crate) fn has_any(pendings: &[Pending; MOST_NEXUSES], host: u8) -> bool
     requires { host < MOST_NEXUSES }
     ensures { result ≡ has_any (table_pairs pendings.now) host }
 {
-    has(pendings, host, Attention::PowerOn)
-        || has(pendings, host, Attention::ReservationsPreempted)
-        || has(pendings, host, Attention::ReservationsReleased)
-        || has(pendings, host, Attention::RegistrationsPreempted)
+    Attention::ALL
+        .iter()
+        .any(|attention| has(pendings, host, *attention))
 }
 
 /// Makes the attention pending for the host.

@@ -16,7 +16,4 @@ pub use outline::{Outline, OutlineBy, OutlineOf};
 pub use portion::Portion;
 pub use possibilities::Possibilities;
 pub use table::{Row, Table};
-pub use view::{
-    ATTENTION_SETS, MOST_REGISTRATIONS, POWER_ON_BIT, REGISTRATIONS_PREEMPTED_BIT,
-    RESERVATIONS_PREEMPTED_BIT, RESERVATIONS_RELEASED_BIT, View, ViewOf, count_of_reservations,
-};
+pub use view::{ATTENTION_SETS, MOST_REGISTRATIONS, View, ViewOf, count_of_reservations};

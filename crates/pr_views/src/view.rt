@@ -48,18 +48,6 @@ pub const MOST_REGISTRATIONS: u8 = MOST_KEYS as u8 + 1;
 /// How many sets of pending attentions there are, with a bit for each of the four codes.
 pub const ATTENTION_SETS: u8 = 16;
 
-/// The bit of a power on in the number of a set of attentions.
-pub const POWER_ON_BIT: u8 = 1;
-
-/// The bit of RESERVATIONS PREEMPTED there.
-pub const RESERVATIONS_PREEMPTED_BIT: u8 = 2;
-
-/// The bit of RESERVATIONS RELEASED there.
-pub const RESERVATIONS_RELEASED_BIT: u8 = 4;
-
-/// The bit of REGISTRATIONS PREEMPTED there.
-pub const REGISTRATIONS_PREEMPTED_BIT: u8 = 8;
-
 impl<S: ViewSet> ViewOf<S> {
     ghost use Rattle.std.specs.Prelude.{◌↔◌, ◌⊎◌, true, false, IsTrue, IfOk, OnOk, OnErr};
     ghost use Rattle.pr_views.specs.Possibilities.{Item};

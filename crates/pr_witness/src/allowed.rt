@@ -1,14 +1,11 @@
 //! Whether a scenario may start from a state of its unit.
 
 ghost use Rattle.std.specs.Prelude.{◌≡◌, ◌<◌, true};
-ghost use Rattle.std.specs.FinSet as set;
 ghost use Rattle.std.specs.List.{Contains};
-ghost use Rattle.pr_attention.specs.Attentions.{AreAttentions, code_of};
 ghost use Rattle.pr_roles.specs.Scenarios.{scenario_of};
 ghost use Rattle.pr_roles.specs.Starts.{IsAllowedStart};
-ghost use Rattle.pr_witness.specs.inside.Starting.{MayStart, MayStartBelow, IsWithin};
+ghost use Rattle.pr_witness.specs.inside.Starting.{MayStart, MayStartBelow};
 
-use pr_attention::{Attention, Pending};
 use pr_registry::{Held, Registry};
 use pr_roles::{Nexus, Scenario};
 use pr_unit::Unit;
@@ -56,24 +53,5 @@ fn may_start(nexus: &Nexus, unit: &Unit, host: u8) -> bool
         .start
         .alternatives
         .contains(&unit.registry().key(host))
-        && is_within(unit.pending(host), &nexus.pending)
-}
-
-// Whether each attention of the one set is in the other.
-fn is_within(pending: &Pending, most: &Pending) -> bool
-    ensures { result ≡ true → IsWithin pending.now most.now }
-{
-    is_kept(pending, most, Attention::PowerOn)
-        && is_kept(pending, most, Attention::ReservationsPreempted)
-        && is_kept(pending, most, Attention::ReservationsReleased)
-        && is_kept(pending, most, Attention::RegistrationsPreempted)
-}
-
-// Whether the attention is in the other set, if it is in the one.
-fn is_kept(pending: &Pending, most: &Pending, attention: Attention) -> bool
-    ensures kept { result ≡ true → set.contains pending.now (code_of attention) ≡ true
-        → set.contains most.now (code_of attention) ≡ true }
-    ensures members { AreAttentions pending.now }
-{
-    !pending.has(attention) || most.has(attention)
+        && unit.pending(host).is_within(&nexus.pending)
 }

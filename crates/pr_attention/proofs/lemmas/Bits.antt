@@ -1,5 +1,5 @@
 -- A set of codes as the bits of a number.
-use Rattle.std.proofs.Common.{◌≡◌, ◌≢◌, ℕ, zero, suc, ◌-◌, ◌*◌, ◌%◌, ◌^◌, ◌<◌, Bool, true, false, ◌==◌, ◌&&◌, ◌||◌, not, w8, refl, sym, ap, ◌∙◌, inl, inr, ◌⊎◌, get_or, lit<, arith, bit_or, bit_and}
+use Rattle.std.proofs.Common.{◌≡◌, ◌≢◌, ℕ, zero, suc, ◌-◌, ◌*◌, ◌%◌, ◌^◌, ◌<◌, Bool, true, false, ◌==◌, ◌&&◌, ◌||◌, ◌↔◌, if◌then◌else◌, min, max, not, w8, refl, sym, ap, ◌∙◌, inl, inr, ◌⊎◌, get_or, lit<, arith, bit_or, bit_and}
 use Rattle.std.specs.Int.{bit_at, bit_not}
 use Rattle.std.specs.Ordering.{nat_cmp, eq_by_cmp}
 use Rattle.std.specs.Cmp.{nat_cmp_total, unsigned_tied, both_ways}
@@ -8,13 +8,14 @@ use Rattle.std.specs.FinSet.{nat_cmp-IsAntisymmetric}
 use Rattle.std.specs.List.{list_any}
 use Rattle.std.proofs.lemmas.Bool.{and_parts}
 use Rattle.std.proofs.lemmas.Bool.Decides.{nat_tests, eqb_tells}
-use Rattle.std.proofs.lemmas.Nat.{or_lt, and_le_l}
-use Rattle.std.proofs.lemmas.Nat.Bits.{bit_at_or, bit_at-pow_same, bit_at-pow_other, bit_at_clear_same, bit_at_clear_other, bit_at-zero, bit_at-lt, and_pow, same_from_bits_below}
+use Rattle.std.proofs.lemmas.Nat.{or_lt, and_le_l, and_le_r}
+use Rattle.std.proofs.lemmas.Nat.Bits.{bit_at_and, bit_at_or, bit_at-pow_same, bit_at-pow_other, bit_at_clear_same, bit_at_clear_other, bit_at-zero, bit_at-lt, and_pow, same_from_bits_below}
 use Rattle.bitflags.specs.Sets.{without}
-use Rattle.std.proofs.Math.Bool.{and-false}
+use Rattle.std.proofs.Math.Bool.{and-false, or-false}
 use Rattle.pr_attention.specs.declared.attention.Attention.{Attention}
 use Rattle.pr_attention.specs.declared.attention.Attention.TheVariants.{PowerOn, ReservationsPreempted, ReservationsReleased, RegistrationsPreempted}
 use Rattle.pr_attention.specs.Attentions.{attentions, is_attention, code_of, no_code, AreAttentions}
+use Rattle.pr_sets.specs.Numbers.{Within}
 use Rattle.pr_attention.specs.SameCodes.{is_same, is_same-tells}
 use Rattle.pr_attention.specs.Flagged.{place_of, codes_of}
 use Rattle.pr_attention.proofs.lemmas.Sets.{same_codes, contains-no_code, contains-insert_code, contains-remove_code, is_attention-code_of}
@@ -129,6 +130,50 @@ pub codes_of-zero : codes_of 0 ≡ no_code
 codes_of-zero =
     same_codes _ _ (λ q. contains-codes_of 0 q ∙ ap (λ n. is_attention q && (n == 1)) (bit_at-zero (place_of q)) ∙ and-false (is_attention q) ∙ sym (contains-no_code q))
 
+-- ---- a set by its bits
+
+-- those of both numbers
+pub contains-codes_of-or : (m n q : ℕ) → set.contains (codes_of (bit_or m n)) q ≡ (set.contains (codes_of m) q || set.contains (codes_of n) q)
+contains-codes_of-or m n q =
+    contains-codes_of (bit_or m n) q ∙ ap (λ x. is_attention q && (x == 1)) (bit_at_or m n (place_of q))
+    ∙ either (is_attention q) (bit_at m (place_of q)) (bit_at n (place_of q)) (bit_at-lt m (place_of q)) (bit_at-lt n (place_of q))
+    ∙ (λ i. sym (contains-codes_of m q) i || sym (contains-codes_of n q) i)
+  where
+    either : (b : Bool) (x y : ℕ) → x < 2 → y < 2 → (b && (max x y == 1)) ≡ ((b && (x == 1)) || (b && (y == 1)))
+    either true x y few_x few_y = grind (arith, nat_tests)
+    either false x y few_x few_y = refl
+
+-- one where a test says so
+pub contains-codes_of-if : (b : Bool) (a : Attention) (q : ℕ) → set.contains (codes_of (if b then flag_of a else 0)) q ≡ (b && q == code_of a)
+contains-codes_of-if false a q = ap (λ s. set.contains s q) codes_of-zero ∙ contains-no_code q
+contains-codes_of-if true a q =
+    ap (λ n. set.contains (codes_of n) q) (sym (alone a)) ∙ ap (λ s. set.contains s q) (codes_of-or_flag 0 a ∙ ap (λ s. set.insert s (code_of a)) codes_of-zero)
+    ∙ contains-insert_code no_code (code_of a) q ∙ ap (λ b. q == code_of a || b) (contains-no_code q) ∙ or-false (q == code_of a)
+  where
+    alone : (a : Attention) → bit_or 0 (flag_of a) ≡ flag_of a
+    alone PowerOn = refl
+    alone ReservationsPreempted = refl
+    alone ReservationsReleased = refl
+    alone RegistrationsPreempted = refl
+
+pub few_bits : (bits : ℕ) → bit_and bits 15 < 16
+few_bits bits = omega (arith, and_le_r bits 15)
+
+all_set : (i : ℕ) → i < 4 → bit_at 15 i ≡ 1
+all_set zero small = refl
+all_set (suc zero) small = refl
+all_set (suc (suc zero)) small = refl
+all_set (suc (suc (suc zero))) small = refl
+all_set (suc (suc (suc (suc i)))) small = absurd (omega arith)
+
+-- bits past the fourth are of no code
+pub codes_of-low : (bits : ℕ) → codes_of (bit_and bits 15) ≡ codes_of bits
+codes_of-low bits =
+    same_codes _ _ (λ q. contains-codes_of (bit_and bits 15) q ∙ ap (λ n. is_attention q && (n == 1)) (low (place_of q) (few_places q)) ∙ sym (contains-codes_of bits q))
+  where
+    low : (i : ℕ) → i < 4 → bit_at (bit_and bits 15) i ≡ bit_at bits i
+    low i small = let set_bit = all_set i small in let few = bit_at-lt bits i in bit_at_and bits 15 i ∙ omega arith
+
 -- ---- what a set says of its bits
 
 pub AreAttentions-codes_of : (bits : ℕ) → AreAttentions (codes_of bits)
@@ -161,3 +206,39 @@ is_same-codes_of m n few_m few_n =
     both_ways (m == n) (is_same (codes_of m) (codes_of n))
     (λ same. let equal : m ≡ n = grind (arith, nat_tests) in (is_same-tells (codes_of m) (codes_of n)).1 (ap codes_of equal))
     (λ same. let equal : m ≡ n = same_bits m n few_m few_n ((is_same-tells (codes_of m) (codes_of n)).0 same) in grind (arith, nat_tests))
+
+-- the bits of one set are among those of another where its codes are
+pub within_bits : (m n : ℕ) → m < 16 → ((bit_and n m == m) ≡ true) ↔ Within (codes_of m) (codes_of n)
+within_bits m n few = (
+  λ same q there.
+      let parts = and_parts (is_attention q) (bit_at m (place_of q) == 1) (sym (contains-codes_of m q) ∙ there) in
+      let both : bit_and n m ≡ m = grind (arith, nat_tests) in
+      let bit : min (bit_at n (place_of q)) (bit_at m (place_of q)) ≡ bit_at m (place_of q) = sym (bit_at_and n m (place_of q)) ∙ ap (λ x. bit_at x (place_of q)) both in
+      contains-codes_of n q ∙ rw (parts.0, set_too (bit_at n (place_of q)) (bit_at m (place_of q)) (bit_at-lt n (place_of q)) bit parts.1) refl,
+  λ within.
+      let both : bit_and n m ≡ m = same_from_bits_below 4 (bit_and n m) m (omega (arith, few, and_le_r n m)) few (λ i small. bit_at_and n m i ∙ kept within i small) in
+      grind (arith, nat_tests),
+)
+  where
+    set_too : (x y : ℕ) → x < 2 → min x y ≡ y → (y == 1) ≡ true → (x == 1) ≡ true
+    set_too x y few same one = grind (arith, nat_tests)
+
+    of : (a : Attention) → Within (codes_of m) (codes_of n) → (bit_at m (place_of (code_of a)) == 1) ≡ true → (bit_at n (place_of (code_of a)) == 1) ≡ true
+    of a within one =
+        let attention = is_attention-code_of a in
+        (and_parts (is_attention (code_of a)) _ (sym (contains-codes_of n (code_of a)) ∙ within (code_of a) (contains-codes_of m (code_of a) ∙ rw (attention, one) refl))).1
+
+    least : (x y : ℕ) → x < 2 → y < 2 → ((y == 1) ≡ true → (x == 1) ≡ true) → min x y ≡ y
+    least x zero few_x few_y also = omega arith
+    least x (suc zero) few_x few_y also = let one = also refl in grind (arith, nat_tests)
+    least x (suc (suc y)) few_x few_y also = absurd (omega arith)
+
+    at : (a : Attention) → Within (codes_of m) (codes_of n) → min (bit_at n (place_of (code_of a))) (bit_at m (place_of (code_of a))) ≡ bit_at m (place_of (code_of a))
+    at a within = least _ _ (bit_at-lt n (place_of (code_of a))) (bit_at-lt m (place_of (code_of a))) (of a within)
+
+    kept : Within (codes_of m) (codes_of n) → (i : ℕ) → i < 4 → min (bit_at n i) (bit_at m i) ≡ bit_at m i
+    kept within zero small = at PowerOn within
+    kept within (suc zero) small = at ReservationsPreempted within
+    kept within (suc (suc zero)) small = at ReservationsReleased within
+    kept within (suc (suc (suc zero))) small = at RegistrationsPreempted within
+    kept within (suc (suc (suc (suc i)))) small = absurd (omega arith)

@@ -1,15 +1,15 @@
 -- The lowest code of a set is the first of the four that is in it.
-use Rattle.std.proofs.Common.{◌≡◌, ◌≢◌, ◌↔◌, ℕ, ◌≤◌, Bool, true, false, cond, Option, Some, None, IsNone, IfSome, ◌∷◌, [], refl, sym, ap, ◌∙◌, arith}
+use Rattle.std.proofs.Common.{◌≡◌, ◌≢◌, ◌↔◌, ℕ, ◌≤◌, Bool, true, false, cond, Option, Some, None, IsNone, IfSome, refl, sym, ap, ◌∙◌, arith}
 use Rattle.std.specs.FinSet as set
 use Rattle.std.specs.List.{find}
 use Rattle.std.proofs.lemmas.Bool.Decides.{nat_tests}
 use Rattle.pr_attention.specs.declared.attention.Attention.{Attention}
 use Rattle.pr_attention.specs.declared.attention.Attention.TheVariants.{PowerOn, ReservationsPreempted, ReservationsReleased, RegistrationsPreempted}
-use Rattle.pr_attention.specs.Attentions.{power_on, reservations_preempted, reservations_released, registrations_preempted, code_of, Codes, no_code, AreAttentions, IsLowest}
+use Rattle.pr_attention.specs.Attentions.{power_on, reservations_preempted, reservations_released, registrations_preempted, code_of, each_attention, Codes, no_code, AreAttentions, IsLowest}
 use Rattle.pr_attention.proofs.lemmas.Sets.{same_codes, contains-no_code}
 
 abbrev pub first_in : Codes → Option Attention
-first_in s = find (λ a. set.contains s (code_of a)) (PowerOn ∷ ReservationsPreempted ∷ ReservationsReleased ∷ RegistrationsPreempted ∷ [])
+first_in s = find (λ a. set.contains s (code_of a)) each_attention
 
 module _ (s : Codes) (are : AreAttentions s) where
   -- a member is one of the four, and none that is not in the set

@@ -1,24 +1,37 @@
 -- What sets of codes contain, and that they are equal where they contain the same.
-use Rattle.std.proofs.Common.{◌≡◌, ℕ, Bool, true, false, ◌==◌, ◌&&◌, ◌||◌, not, IsTrue, refl, sym, ap, ◌∙◌, arith}
+use Rattle.std.proofs.Common.{◌≡◌, ℕ, Bool, true, false, ◌==◌, ◌&&◌, ◌||◌, ◌↔◌, not, IsTrue, refl, sym, ap, ◌∙◌, arith}
 use Rattle.std.specs.FinSet as set
-use Rattle.std.specs.List.{list_any}
+use Rattle.std.proofs.lemmas.Bool.{false≢true}
 use Rattle.std.proofs.lemmas.Bool.Decides.{nat_tests}
 pub use Rattle.pr_sets.proofs.lemmas.Members.{same_numbers as same_codes, contains-empty as contains-no_code, contains-insert as contains-insert_code, contains-remove as contains-remove_code}
 use Rattle.pr_attention.specs.declared.attention.Attention.{Attention}
 use Rattle.pr_attention.specs.declared.attention.Attention.TheVariants.{PowerOn, ReservationsPreempted, ReservationsReleased, RegistrationsPreempted}
-use Rattle.pr_attention.specs.Attentions.{power_on, reservations_preempted, reservations_released, registrations_preempted, attentions, is_attention, code_of, Codes, no_code, AreAttentions}
+use Rattle.pr_attention.specs.Attentions.{power_on, reservations_preempted, reservations_released, registrations_preempted, has_any, is_attention, code_of, Codes, no_code, AreAttentions}
 
 -- what a set of codes contains after a change
 pub ruleset code_reads = (contains-no_code, contains-insert_code, contains-remove_code)
 
 -- ---- whether any of the four codes is there
 
-pub any-no_code : list_any (set.contains no_code) attentions ≡ false
+pub any-no_code : has_any no_code ≡ false
 any-no_code =
     rw (contains-no_code power_on, contains-no_code reservations_preempted, contains-no_code reservations_released, contains-no_code registrations_preempted) refl
 
-pub any-from_member : (s : Codes) (code : ℕ) → AreAttentions s → set.contains s code ≡ true → list_any (set.contains s) attentions ≡ true
+pub any-from_member : (s : Codes) (code : ℕ) → AreAttentions s → set.contains s code ≡ true → has_any s ≡ true
 any-from_member s code are there = let known = are code there in grind (arith, nat_tests)
+
+-- a test that tells whether nothing is there tells whether none of the four is
+pub any-decides : (s : Codes) (b : Bool) → AreAttentions s → (IsTrue b ↔ (s ≡ no_code)) → b ≡ not (has_any s)
+any-decides s true are tells = ap not (sym (ap has_any (tells.0 refl) ∙ any-no_code))
+any-decides s false are tells = at (has_any s) refl
+  where
+    nothing : has_any s ≡ false → (q : ℕ) (b : Bool) → set.contains s q ≡ b → b ≡ set.contains no_code q
+    nothing none q true there = absurd (false≢true (sym none ∙ any-from_member s q are there))
+    nothing none q false there = sym (contains-no_code q)
+
+    at : (b : Bool) → has_any s ≡ b → false ≡ not (has_any s)
+    at true some = ap not (sym some)
+    at false none = absurd (false≢true (tells.1 (same_codes s no_code (λ q. nothing none q (set.contains s q) refl))))
 
 -- ---- the members stay among the four codes
 

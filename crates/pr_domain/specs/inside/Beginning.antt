@@ -1,10 +1,7 @@
 -- The possibilities that a scenario writes for its starts.
-use Rattle.std.specs.Prelude.{◌≡◌, ◌↔◌, ℕ, ◌<◌, ◌≤◌, Bool, true, false, ◌==◌, ◌||◌, not, List, length, Option, Some, None}
-use Rattle.std.specs.FinSet as set
+use Rattle.std.specs.Prelude.{◌≡◌, ◌↔◌, ℕ, ◌<◌, ◌≤◌, Bool, true, false, ◌==◌, List, length, Option, Some, None}
 use Rattle.std.specs.List.{slice_get, list_any, Contains}
 use Rattle.std.specs.Option.{option_map_or}
-use Rattle.pr_attention.specs.declared.attention.Attention.{Attention}
-use Rattle.pr_attention.specs.Attentions.{Codes, code_of}
 use Rattle.pr_attention.specs.Flagged.{codes_of}
 use Rattle.pr_registry.specs.declared.held.Held.{Held}
 use Rattle.pr_roles.specs.declared.parts.Nexus.{Nexus as NexusPart}
@@ -13,6 +10,7 @@ use Rattle.pr_roles.specs.Fitting.{is_reservation}
 use Rattle.pr_roles.specs.Scenarios.{Scenario, Nexus, nexus}
 use Rattle.pr_roles.specs.inside.StoredStarts.{start_of}
 use Rattle.pr_sets.specs.BitSets.{has}
+use Rattle.pr_sets.specs.Numbers.{Within}
 use Rattle.pr_sets.specs.Wides.{has_wide}
 use Rattle.pr_views.specs.declared.possibilities.Possibilities.{Possibilities}
 use Rattle.pr_roles.specs.Keys.{key_at}
@@ -41,18 +39,10 @@ may_have keys nexuses g r = option_map_or (λ n. has_alternative keys (start_of 
 abbrev pub has_reservation : ℕ → List (Option Held) → ℕ → Bool
 has_reservation hosts reservations x = list_any (λ held. number_of hosts held == x) reservations
 
--- each of these codes is one of the others
-abbrev pub AreAmong : Codes → Codes → Type 0
-AreAmong codes others = (code : ℕ) → set.contains codes code ≡ true → set.contains others code ≡ true
-
--- if the attention is one of these, it is one of the others
-abbrev pub stays : ℕ → Codes → Attention → Bool
-stays attentions codes a = not (set.contains (codes_of attentions) (code_of a)) || set.contains codes (code_of a)
-
 -- the possibilities are the written alternatives
 pub record AreAlternatives (sc : Scenario) (s : Scope) (p : Possibilities) : Type 0 where
   pub hosts : s.hosts ≡ length sc.nexuses
   pub there : (g : ℕ) (n : Nexus) → nexus sc g ≡ Some n → g < s.hosts
   pub registrations : (g r : ℕ) (n : Nexus) → nexus sc g ≡ Some n → r ≤ length s.keys → (has_at p.registrations g r ≡ true) ↔ Contains n.start (key_at s.keys r)
   pub reservations : (held : Option Held) → is_reservation s.hosts held ≡ true → (has_wide p.reservations (number_of s.hosts held) ≡ true) ↔ Contains sc.reservations held
-  pub pending : (q : ℕ) (n : Nexus) → q < count_of_attentions → nexus sc s.own ≡ Some n → (has p.pending q ≡ true) ↔ AreAmong (codes_of q) n.pending
+  pub pending : (q : ℕ) (n : Nexus) → q < count_of_attentions → nexus sc s.own ≡ Some n → (has p.pending q ≡ true) ↔ Within (codes_of q) n.pending

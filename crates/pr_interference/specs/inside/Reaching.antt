@@ -14,7 +14,7 @@ use Rattle.pr_sets.specs.declared.bit_set.BitSet.{BitSet}
 use Rattle.pr_sets.specs.BitSets.{has}
 use Rattle.pr_sets.specs.Wides.{has_wide}
 use Rattle.pr_views.specs.declared.possibilities.Possibilities.{Possibilities}
-use Rattle.pr_views.specs.declared.view.TheConstants.{RESERVATIONS_PREEMPTED_BIT, RESERVATIONS_RELEASED_BIT, REGISTRATIONS_PREEMPTED_BIT}
+use Rattle.pr_attention.specs.declared.flags.TheConstants.{RESERVATIONS_PREEMPTED_BIT, RESERVATIONS_RELEASED_BIT, REGISTRATIONS_PREEMPTED_BIT}
 use Rattle.pr_views.specs.Possibilities.{Scope, Item, Registration, Reservation, Attentions, IsSo, number_of}
 use Rattle.pr_views.specs.Views.{IsPossible, Shows}
 use Rattle.pr_views.specs.Portions.{has_at, view_in}

@@ -8,16 +8,20 @@ use Rattle.pr_unit.specs.UnitStates.{UnitState, is_pending, after_report, effect
 use Rattle.pr_unit.specs.Replies.{good, report, data_of}
 use Rattle.pr_unit.specs.Steps.{Reports}
 
+-- the attention is not pending, or the reply does not report it
+abbrev pub IsUnreported : UnitState → ℕ → Request → Reply → ℕ → Type 0
+IsUnreported u h q r code = is_pending u h code ≡ true → r ≡ report q code → ⊥
+
 -- True: the reply reports this attention, which was pending and alone is no more. False: it does not, or
 -- the attention is not pending, and nothing changes.
 abbrev pub IsReported : UnitState → ℕ → Request → Reply → ℕ → Bool → UnitState → Type 0
 IsReported u h q r code true u' = (is_pending u h code ≡ true) × (r ≡ report q code) × (u' ≡ after_report u h code)
-IsReported u h q r code false u' = (u' ≡ u) × (is_pending u h code ≡ true → r ≡ report q code → ⊥)
+IsReported u h q r code false u' = (u' ≡ u) × IsUnreported u h q r code
 
 -- the same of some attention
 abbrev pub IsAnyReported : UnitState → ℕ → Request → Reply → Bool → UnitState → Type 0
 IsAnyReported u h q r true u' = Reports u h q r u'
-IsAnyReported u h q r false u' = (u' ≡ u) × ((code : ℕ) → IsTrue (is_attention code) → is_pending u h code ≡ true → r ≡ report q code → ⊥)
+IsAnyReported u h q r false u' = (u' ≡ u) × ((code : ℕ) → IsTrue (is_attention code) → IsUnreported u h q r code)
 
 -- the same of the reply of a command that ends GOOD
 abbrev pub IsDoneSo : UnitState → ℕ → Command → Reply → Bool → UnitState → Type 0

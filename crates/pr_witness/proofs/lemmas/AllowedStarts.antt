@@ -6,37 +6,13 @@ use Rattle.std.specs.List.{slice_get, Contains}
 use Rattle.std.proofs.lemmas.Bool.Decides.{nat_tests}
 use Rattle.std.proofs.lemmas.List.{length-map}
 use Rattle.std.proofs.lemmas.Option.{none-some, same_Some, slice_get-map, slice_get_within}
-use Rattle.pr_attention.specs.Attentions.{AreAttentions, Codes, is_attention, power_on, reservations_preempted, reservations_released, registrations_preempted}
 use Rattle.pr_registry.specs.Registrations.{key_of}
 use Rattle.pr_unit.specs.UnitStates.{UnitState, IsWellFormed}
 use Rattle.pr_roles.specs.declared.parts.Nexus.{Nexus as NexusPart}
 use Rattle.pr_roles.specs.declared.parts.Parts.{Parts}
 use Rattle.pr_roles.specs.Scenarios.{Nexus, nexus_of, scenario_of}
 use Rattle.pr_roles.specs.Starts.{IsAllowedStart}
-use Rattle.pr_witness.specs.inside.Starting.{IsWithin, MayStart, MayStartBelow}
-
--- ---- attentions
-
--- of the four each is kept
-pub within : (codes most : Codes) → AreAttentions codes → (set.contains codes power_on ≡ true → set.contains most power_on ≡ true)
-    → (set.contains codes reservations_preempted ≡ true → set.contains most reservations_preempted ≡ true)
-    → (set.contains codes reservations_released ≡ true → set.contains most reservations_released ≡ true)
-    → (set.contains codes registrations_preempted ≡ true → set.contains most registrations_preempted ≡ true) → IsWithin codes most
-within codes most all one two three four code has =
-    by (code == power_on) refl (code == reservations_preempted) refl (code == reservations_released) refl (code == registrations_preempted) refl (all code has)
-  where
-    kept : (a : ℕ) → (code == a) ≡ true → (set.contains codes a ≡ true → set.contains most a ≡ true) → set.contains most code ≡ true
-    kept a is keeps =
-        let same : code ≡ a = grind (arith, nat_tests) in
-        subst (λ x. set.contains most x ≡ true) (sym same) (keeps (subst (λ x. set.contains codes x ≡ true) same has))
-
-    by : (p : Bool) → (code == power_on) ≡ p → (q : Bool) → (code == reservations_preempted) ≡ q → (r : Bool) → (code == reservations_released) ≡ r → (s : Bool) → (code == registrations_preempted) ≡ s
-        → IsTrue (is_attention code) → set.contains most code ≡ true
-    by true is q qs r rs s ss known = kept power_on is one
-    by false ps true is r rs s ss known = kept reservations_preempted is two
-    by false ps false qs true is s ss known = kept reservations_released is three
-    by false ps false qs false rs true is known = kept registrations_preempted is four
-    by false ps false qs false rs false ss known = let bad : false ≡ true = rw (ps, qs, rs, ss) at known in cc
+use Rattle.pr_witness.specs.inside.Starting.{MayStart, MayStartBelow}
 
 -- ---- nexuses
 

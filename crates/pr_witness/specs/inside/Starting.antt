@@ -2,13 +2,9 @@
 use Rattle.std.specs.Prelude.{◌≡◌, ℕ, ◌<◌, true, List, Some}
 use Rattle.std.specs.FinSet as set
 use Rattle.std.specs.List.{slice_get, Contains}
-use Rattle.pr_attention.specs.Attentions.{Codes}
 use Rattle.pr_registry.specs.Registrations.{key_of}
 use Rattle.pr_unit.specs.UnitStates.{UnitState, is_pending}
 use Rattle.pr_roles.specs.declared.parts.Nexus.{Nexus}
-
-abbrev pub IsWithin : Codes → Codes → Type 0
-IsWithin codes most = (code : ℕ) → set.contains codes code ≡ true → set.contains most code ≡ true
 
 -- the nexus may be registered as h is, and each code that is pending for h may be pending for it
 pub record MayStart (n : Nexus) (u : UnitState) (h : ℕ) : Type 0 where

@@ -3,7 +3,6 @@ use Rattle.std.proofs.Common.{◌≡◌, ℕ, ◌+◌, ◌<◌, ◌≤◌, Bool,
 use Rattle.std.specs.List.{flat_map, range_with_len}
 use Rattle.std.specs.Io.KnownBytes.{Appends}
 use Rattle.std.proofs.lemmas.List.FromFn.{get_or-range_with_len, length-range_with_len}
-use Rattle.pr_attention.specs.Attentions.{power_on, reservations_preempted, reservations_released, registrations_preempted}
 use Rattle.pr_output.specs.Written.{FallsShort, Wrote}
 use Rattle.pr_output.proofs.lemmas.Written.Fronts.{flat_map_end, flat_map_from, wrote_all, wrote_front, wrote_more}
 use Rattle.pr_commands.specs.WitnessText.{pending_line}
@@ -34,4 +33,4 @@ module _ (f : ℕ → List ℕ) (n i : ℕ) (old mid new : Option (List ℕ)) wh
 
 -- the same codes are pending
 pub pending_same : (name : List ℕ) (p q : ℕ → Bool) → ((code : ℕ) → p code ≡ q code) → pending_line name p ≡ pending_line name q
-pending_same name p q same = rw (same power_on, same reservations_preempted, same reservations_released, same registrations_preempted) refl
+pending_same name p q same = λ i. pending_line name (λ code. same code i)

@@ -1,121 +1,62 @@
 -- Sets of codes by their numbers: which are within another, and which one a test tells.
-use Rattle.pr_domain.proofs.Common.{◌≡◌, ℕ, ◌+◌, ◌<◌, Bool, true, false, not, ◌&&◌, ◌||◌, ◌↔◌, List, [], ◌∷◌, if◌then◌else◌, IsTrue, ◌==◌, sym, refl, ap, ◌∙◌, lit<, list_all, false≢true, and_parts, has, BitSet, power_on, reservations_preempted, reservations_released, registrations_preempted, code_of, codes_of, Attention, PowerOn, ReservationsPreempted, ReservationsReleased, RegistrationsPreempted, stays, ATTENTION_SETS}
+use Rattle.pr_domain.proofs.Common.{◌≡◌, ℕ, ◌<◌, Bool, true, false, ◌&&◌, ◌||◌, ◌↔◌, if◌then◌else◌, IsTrue, ◌==◌, sym, refl, ◌∙◌, lit<, false≢true, has, BitSet, code_of, codes_of, Attention, PowerOn, ReservationsPreempted, ReservationsReleased, RegistrationsPreempted, ATTENTION_SETS}
+use Rattle.std.proofs.Common.{arith, bit_or}
 use Rattle.std.specs.FinSet as set
-use Rattle.std.specs.Int.{bit_at}
 use Rattle.std.proofs.lemmas.Bool.{false_from_ne_true}
+use Rattle.std.proofs.lemmas.Bool.Decides.{nat_tests}
+use Rattle.std.proofs.lemmas.Nat.{or_lt}
 use Rattle.pr_attention.specs.Attentions.{is_attention, Codes}
-use Rattle.pr_attention.specs.Flagged.{place_of}
-use Rattle.pr_attention.proofs.lemmas.Bits.{contains-codes_of, AreAttentions-codes_of}
-use Rattle.pr_attention.proofs.lemmas.Sets.{is_attention-code_of}
-use Rattle.pr_attention.proofs.lemmas.FourCodes.{which}
-use Rattle.pr_domain.specs.inside.Beginning.{AreAmong}
-
--- ---- within another
-
-abbrev pub all_attentions : List Attention
-all_attentions = PowerOn ∷ ReservationsPreempted ∷ ReservationsReleased ∷ RegistrationsPreempted ∷ []
-
-abbrev all_stay : ℕ → Codes → Bool
-all_stay q codes = list_all (stays q codes) all_attentions
-
-implies : (a b : Bool) → (not a || b) ≡ true → a ≡ true → b ≡ true
-implies true b is there = is
-implies false b is there = absurd (false≢true there)
-
-implied : (a b : Bool) → (a ≡ true → b ≡ true) → (not a || b) ≡ true
-implied true b gives = gives refl
-implied false b gives = refl
-
-pub all_stay_tells : (q : ℕ) (codes : Codes) → (list_all (stays q codes) all_attentions ≡ true) ↔ AreAmong (codes_of q) codes
-all_stay_tells q codes = (λ all code there. among all code there, λ are. all are)
-  where
-    each : (a : Attention) → all_stay q codes ≡ true → stays q codes a ≡ true
-    each PowerOn all = (and_parts (stays q codes PowerOn) _ all).0
-    each ReservationsPreempted all =
-        let rest = (and_parts (stays q codes PowerOn) _ all).1 in
-        (and_parts (stays q codes ReservationsPreempted) _ rest).0
-    each ReservationsReleased all =
-        let rest = (and_parts (stays q codes PowerOn) _ all).1 in
-        let more = (and_parts (stays q codes ReservationsPreempted) _ rest).1 in
-        (and_parts (stays q codes ReservationsReleased) _ more).0
-    each RegistrationsPreempted all =
-        let rest = (and_parts (stays q codes PowerOn) _ all).1 in
-        let more = (and_parts (stays q codes ReservationsPreempted) _ rest).1 in
-        let last = (and_parts (stays q codes ReservationsReleased) _ more).1 in
-        (and_parts (stays q codes RegistrationsPreempted) true last).0
-
-    among : all_stay q codes ≡ true → AreAmong (codes_of q) codes
-    among all code there =
-        let one = which code (AreAttentions-codes_of q code there) in
-        let here : set.contains (codes_of q) (code_of one.0) ≡ true = ap (set.contains (codes_of q)) (sym one.1) ∙ there in
-        ap (set.contains codes) one.1 ∙ implies (set.contains (codes_of q) (code_of one.0)) (set.contains codes (code_of one.0)) (each one.0 all) here
-
-    here : (a : Attention) → AreAmong (codes_of q) codes → stays q codes a ≡ true
-    here a are = implied (set.contains (codes_of q) (code_of a)) (set.contains codes (code_of a)) (are (code_of a))
-
-    all : AreAmong (codes_of q) codes → all_stay q codes ≡ true
-    all are = λ i. here PowerOn are i && (here ReservationsPreempted are i && (here ReservationsReleased are i && (here RegistrationsPreempted are i && true)))
+use Rattle.pr_attention.proofs.lemmas.Bits.{flag_of, flag_of-lt, contains-codes_of-if, contains-codes_of-or}
+use Rattle.pr_sets.specs.Numbers.{Within}
 
 -- ---- the number of the codes that pass a test
 
--- the bits, the lowest first
-abbrev bits_of : Bool → Bool → Bool → Bool → ℕ
-bits_of a b c d = (if a then 1 else 0) + ((if b then 2 else 0) + ((if c then 4 else 0) + (if d then 8 else 0)))
+module _ (test : ℕ → Bool) where
+  abbrev one : Attention → ℕ
+  one a = if test (code_of a) then flag_of a else 0
 
--- the bits are those of the number
-record HasBits (q : ℕ) (a b c d : Bool) : Type 0 where
-  few : q < ATTENTION_SETS
-  first : (bit_at q 0 == 1) ≡ a
-  second : (bit_at q 1 == 1) ≡ b
-  third : (bit_at q 2 == 1) ≡ c
-  fourth : (bit_at q 3 == 1) ≡ d
+  one-lt : (a : Attention) → one a < ATTENTION_SETS
+  one-lt a = at (test (code_of a))
+    where
+      at : (b : Bool) → (if b then flag_of a else 0) < ATTENTION_SETS
+      at true = flag_of-lt a
+      at false = lit< tt
 
-has_bits : (a b c d : Bool) → HasBits (bits_of a b c d) a b c d
-has_bits true true true true = record { few = lit< tt; first = refl; second = refl; third = refl; fourth = refl }
-has_bits true true true false = record { few = lit< tt; first = refl; second = refl; third = refl; fourth = refl }
-has_bits true true false true = record { few = lit< tt; first = refl; second = refl; third = refl; fourth = refl }
-has_bits true true false false = record { few = lit< tt; first = refl; second = refl; third = refl; fourth = refl }
-has_bits true false true true = record { few = lit< tt; first = refl; second = refl; third = refl; fourth = refl }
-has_bits true false true false = record { few = lit< tt; first = refl; second = refl; third = refl; fourth = refl }
-has_bits true false false true = record { few = lit< tt; first = refl; second = refl; third = refl; fourth = refl }
-has_bits true false false false = record { few = lit< tt; first = refl; second = refl; third = refl; fourth = refl }
-has_bits false true true true = record { few = lit< tt; first = refl; second = refl; third = refl; fourth = refl }
-has_bits false true true false = record { few = lit< tt; first = refl; second = refl; third = refl; fourth = refl }
-has_bits false true false true = record { few = lit< tt; first = refl; second = refl; third = refl; fourth = refl }
-has_bits false true false false = record { few = lit< tt; first = refl; second = refl; third = refl; fourth = refl }
-has_bits false false true true = record { few = lit< tt; first = refl; second = refl; third = refl; fourth = refl }
-has_bits false false true false = record { few = lit< tt; first = refl; second = refl; third = refl; fourth = refl }
-has_bits false false false true = record { few = lit< tt; first = refl; second = refl; third = refl; fourth = refl }
-has_bits false false false false = record { few = lit< tt; first = refl; second = refl; third = refl; fourth = refl }
+  -- the code is that of this one, and passes
+  abbrev is_one : ℕ → Attention → Bool
+  is_one code a = test (code_of a) && code == code_of a
+
+  abbrev number : ℕ
+  number = bit_or (bit_or (one PowerOn) (one ReservationsPreempted)) (bit_or (one ReservationsReleased) (one RegistrationsPreempted))
+
+  contains-number : (code : ℕ) → set.contains (codes_of number) code ≡ ((is_one code PowerOn || is_one code ReservationsPreempted) || (is_one code ReservationsReleased || is_one code RegistrationsPreempted))
+  contains-number code =
+      contains-codes_of-or (bit_or (one PowerOn) (one ReservationsPreempted)) (bit_or (one ReservationsReleased) (one RegistrationsPreempted)) code
+      ∙ (λ i. two PowerOn ReservationsPreempted i || two ReservationsReleased RegistrationsPreempted i)
+    where
+      two : (a b : Attention) → set.contains (codes_of (bit_or (one a) (one b))) code ≡ (is_one code a || is_one code b)
+      two a b = contains-codes_of-or (one a) (one b) code ∙ (λ i. contains-codes_of-if (test (code_of a)) a code i || contains-codes_of-if (test (code_of b)) b code i)
+
+  any_one : (code : ℕ) → ((c : ℕ) → test c ≡ true → IsTrue (is_attention c)) → test code ≡ ((is_one code PowerOn || is_one code ReservationsPreempted) || (is_one code ReservationsReleased || is_one code RegistrationsPreempted))
+  any_one code known = at (is_attention code) refl
+    where
+      at : (b : Bool) → is_attention code ≡ b → test code ≡ ((is_one code PowerOn || is_one code ReservationsPreempted) || (is_one code ReservationsReleased || is_one code RegistrationsPreempted))
+      at false is =
+          let fails : test code ≡ false = false_from_ne_true (test code) (λ passes. false≢true (sym is ∙ known code passes)) in
+          grind (arith, nat_tests)
+      at true is = grind (arith, nat_tests)
 
 -- a test that only attentions pass tells one of the sixteen sets
 pub numbered : (test : ℕ → Bool) → ((code : ℕ) → test code ≡ true → IsTrue (is_attention code)) → (q : ℕ) × (q < ATTENTION_SETS) × ((code : ℕ) → test code ≡ set.contains (codes_of q) code)
-numbered test known = (q, bits.few, λ code. at code (is_attention code) refl)
-  where
-    q : ℕ
-    q = bits_of (test power_on) (test reservations_preempted) (test reservations_released) (test registrations_preempted)
-
-    bits : HasBits q (test power_on) (test reservations_preempted) (test reservations_released) (test registrations_preempted)
-    bits = has_bits (test power_on) (test reservations_preempted) (test reservations_released) (test registrations_preempted)
-
-    bit : (a : Attention) → (bit_at q (place_of (code_of a)) == 1) ≡ test (code_of a)
-    bit PowerOn = bits.first
-    bit ReservationsPreempted = bits.second
-    bit ReservationsReleased = bits.third
-    bit RegistrationsPreempted = bits.fourth
-
-    one : (a : Attention) → test (code_of a) ≡ set.contains (codes_of q) (code_of a)
-    one a = sym (contains-codes_of q (code_of a) ∙ ap (λ b. b && (bit_at q (place_of (code_of a)) == 1)) (is_attention-code_of a) ∙ bit a)
-
-    at : (code : ℕ) (b : Bool) → is_attention code ≡ b → test code ≡ set.contains (codes_of q) code
-    at code true is = let a = which code is in ap test a.1 ∙ one a.0 ∙ ap (set.contains (codes_of q)) (sym a.1)
-    at code false is =
-        false_from_ne_true (test code) (λ passes. false≢true (sym is ∙ known code passes))
-        ∙ sym (contains-codes_of q code ∙ ap (λ b. b && (bit_at q (place_of code) == 1)) is)
+numbered test known = (
+  number test,
+  or_lt 4 _ _ (or_lt 4 _ _ (one-lt test PowerOn) (one-lt test ReservationsPreempted)) (or_lt 4 _ _ (one-lt test ReservationsReleased) (one-lt test RegistrationsPreempted)),
+  λ code. any_one test code known ∙ sym (contains-number test code),
+)
 
 -- ---- all the sets within another
 
 -- of the first sets, those within the other
 pub record AreWithin (n : ℕ) (codes : Codes) (sets : BitSet) : Type 0 where
   pub few : (q : ℕ) → has sets q ≡ true → q < n
-  pub within : (q : ℕ) → q < n → (has sets q ≡ true) ↔ AreAmong (codes_of q) codes
+  pub within : (q : ℕ) → q < n → (has sets q ≡ true) ↔ Within (codes_of q) codes

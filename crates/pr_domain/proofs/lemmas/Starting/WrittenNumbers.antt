@@ -4,6 +4,7 @@ use Rattle.std.proofs.Common.{vec_len}
 use Rattle.std.proofs.lemmas.List.Folds.{Any-from_list_any, list_any-from_Any}
 use Rattle.std.proofs.lemmas.Option.{slice_get-map, slice_get_past, none-some}
 use Rattle.pr_attention.specs.Attentions.{Codes}
+use Rattle.pr_sets.specs.Numbers.{Within}
 use Rattle.pr_script.specs.Names.{is_name}
 use Rattle.pr_roles.specs.declared.parts.Nexus.{Nexus as NexusPart}
 use Rattle.pr_roles.specs.declared.parts.Parts.{Parts}
@@ -17,7 +18,7 @@ use Rattle.pr_views.specs.Possibilities.{count_of_attentions}
 use Rattle.pr_views.proofs.lemmas.Possibilities.Numbers.{same_held, same_registration, once_of}
 use Rattle.pr_regions.specs.Purposes.{number_in}
 use Rattle.pr_regions.proofs.lemmas.Purposes.Conduct.{number_named, declared_number}
-use Rattle.pr_domain.specs.inside.Beginning.{AreAmong, registration_in, has_alternative, scope_in}
+use Rattle.pr_domain.specs.inside.Beginning.{registration_in, has_alternative, scope_in}
 use Rattle.pr_regions.proofs.lemmas.Showing.AlikeViews.{number_below}
 
 -- ---- registrations
@@ -140,7 +141,7 @@ pub record AreWritten (hosts own : ℕ) (parts : Parts) (p : Possibilities) : Ty
   pub registrations : (g r : ℕ) → has_at p.registrations g r ≡ may_have parts.keys.items parts.nexuses.items g r
   pub reservations : (x : ℕ) → has_wide p.reservations x ≡ has_reservation hosts parts.reservations.items x
   pub few : (q : ℕ) → has p.pending q ≡ true → q < count_of_attentions
-  pub pending : (q : ℕ) → q < count_of_attentions → (has p.pending q ≡ true) ↔ AreAmong (codes_of q) nexus.pending
+  pub pending : (q : ℕ) → q < count_of_attentions → (has p.pending q ≡ true) ↔ Within (codes_of q) nexus.pending
 
 through : {A : Type 0} (a b : Bool) → a ≡ b → (b ≡ true) ↔ A → (a ≡ true) ↔ A
 through a b same tells = (λ is. tells.0 (sym same ∙ is), λ x. same ∙ tells.1 x)
@@ -157,7 +158,7 @@ are_alternatives hosts own parts p fits many are = record {
   reservations = λ held ok.
       through (has_wide p.reservations (number_of hosts held)) (has_reservation hosts parts.reservations.items (number_of hosts held)) (are.reservations (number_of hosts held))
       (reservation_tells hosts parts.reservations.items held (subst (λ m. list_all (is_reservation m) parts.reservations.items ≡ true) many (reservations_at parts fits)) ok);
-  pending = λ q n small is. subst (λ (codes : Codes). (has p.pending q ≡ true) ↔ AreAmong (codes_of q) codes) (ap (λ (m : Nexus). m.pending) (one n is)) (are.pending q small);
+  pending = λ q n small is. subst (λ (codes : Codes). (has p.pending q ≡ true) ↔ Within (codes_of q) codes) (ap (λ (m : Nexus). m.pending) (one n is)) (are.pending q small);
 }
   where
     keys : List ℕ

@@ -1,13 +1,13 @@
 -- States that differ in what is pending for one nexus alone: views of the others show them alike.
 use Rattle.pr_interference.proofs.Common.{◌≡◌, ℕ, true, false, not, ◌&&◌, ◌||◌, ◌≢◌, ◌==◌, sym, refl, ap, ◌∙◌, arith, nat_tests, Command, State, UnitState, effect, Registration, Reservation, Attentions, View, Shows, is_pending_after, contains-told, IsLike, so_like}
 use Rattle.std.specs.FinSet as set
-use Rattle.std.proofs.Math.Bool.{and-false}
-use Rattle.pr_attention.specs.Attentions.{power_on, reservations_preempted, reservations_released, registrations_preempted}
-use Rattle.pr_unit.specs.UnitStates.{after, change, IsWellFormed, is_any_pending, pending_after, after_report}
-use Rattle.pr_unit.specs.Attentions.{Pairs}
+use Rattle.std.specs.List.{list_any}
+use Rattle.std.proofs.lemmas.Bool.{and_parts, eq-eqb, ne_eqb}
+use Rattle.std.proofs.Math.Bool.{and-false, and-true}
+use Rattle.pr_attention.specs.Attentions.{attentions}
+use Rattle.pr_unit.specs.UnitStates.{after, change, IsWellFormed, is_any_pending, pending_after}
 use Rattle.pr_unit.specs.Laws.{IsQuiet}
-use Rattle.pr_unit.proofs.lemmas.Attentions.Pairs.{contains-remove-pair}
-use Rattle.pr_unit.proofs.lemmas.Steps.WellFormedSteps.{well_formed-reported}
+use Rattle.pr_unit.proofs.lemmas.Attentions.Pairs.{contains-retain-pair}
 
 pub like_through : (own : ℕ) (u v w : UnitState) → IsLike own u v → IsLike own v w → IsLike own u w
 like_through own u v w first second = record {
@@ -43,46 +43,25 @@ like_effect own h c u w like = record {
 -- ---- nothing is pending for the sender
 
 abbrev pub cleared : UnitState → ℕ → UnitState
-cleared u h = after_report (after_report (after_report (after_report u h power_on) h reservations_preempted) h reservations_released) h registrations_preempted
-
-like_reported : (own : ℕ) (u : UnitState) (h code : ℕ) → own ≢ h → IsLike own u (after_report u h code)
-like_reported own u h code other = record {
-  registry = refl;
-  pending = λ x.
-      let differs : (own == h) ≡ false = grind (arith, nat_tests) in
-      contains-remove-pair u.pending (h, code) (own, x) ∙ ap (λ b. not (b && x == code) && set.contains u.pending (own, x)) differs;
-}
+cleared u h = record u { pending = set.retain u.pending (λ p. not (p.0 == h)) }
 
 pub formed_cleared : (u : UnitState) (h : ℕ) → IsWellFormed u → IsWellFormed (cleared u h)
-formed_cleared u h formed =
-    well_formed-reported _ h registrations_preempted (well_formed-reported _ h reservations_released (well_formed-reported _ h reservations_preempted (well_formed-reported u h power_on formed)))
+formed_cleared u h formed = record {
+  registry = formed.registry;
+  pending = λ g code is. formed.pending g code (and_parts (set.contains u.pending (g, code)) _ (sym (contains-retain-pair u.pending (λ x. not (x == h)) (g, code)) ∙ is)).0;
+}
 
 pub like_cleared : (own : ℕ) (u : UnitState) (h : ℕ) → own ≢ h → IsLike own u (cleared u h)
-like_cleared own u h other =
-    let a = after_report u h power_on in
-    let b = after_report a h reservations_preempted in
-    let c = after_report b h reservations_released in
-    like_through own u c (after_report c h registrations_preempted)
-    (like_through own u b c (like_through own u a b (like_reported own u h power_on other) (like_reported own a h reservations_preempted other)) (like_reported own b h reservations_released other))
-    (like_reported own c h registrations_preempted other)
-
-gone : (s : Pairs) (h code : ℕ) → set.contains (set.remove s (h, code)) (h, code) ≡ false
-gone s h code =
-    let host : (h == h) ≡ true = grind (arith, nat_tests) in
-    let same : (code == code) ≡ true = grind (arith, nat_tests) in
-    contains-remove-pair s (h, code) (h, code) ∙ (λ i. not (host i && same i) && set.contains s (h, code))
-
-stays_gone : (s : Pairs) (h k code : ℕ) → set.contains s (h, code) ≡ false → set.contains (set.remove s (h, k)) (h, code) ≡ false
-stays_gone s h k code is = contains-remove-pair s (h, k) (h, code) ∙ ap (λ b. not (h == h && code == k) && b) is ∙ and-false (not (h == h && code == k))
+like_cleared own u h other = record {
+  registry = refl;
+  pending = λ code. contains-retain-pair u.pending (λ x. not (x == h)) (own, code)
+      ∙ ap (λ b. set.contains u.pending (own, code) && not b) (ne_eqb own h other) ∙ and-true (set.contains u.pending (own, code));
+}
 
 pub none_cleared : (u : UnitState) (h : ℕ) → is_any_pending (cleared u h) h ≡ false
-none_cleared u h =
-    let a = set.remove u.pending (h, power_on) in
-    let b = set.remove a (h, reservations_preempted) in
-    let c = set.remove b (h, reservations_released) in
-    let d = set.remove c (h, registrations_preempted) in
-    let first = stays_gone c h registrations_preempted power_on (stays_gone b h reservations_released power_on (stays_gone a h reservations_preempted power_on (gone u.pending h power_on))) in
-    let second = stays_gone c h registrations_preempted reservations_preempted (stays_gone b h reservations_released reservations_preempted (gone a h reservations_preempted)) in
-    let third = stays_gone c h registrations_preempted reservations_released (gone b h reservations_released) in
-    let fourth = gone c h registrations_preempted in
-    (λ i. first i || (second i || (third i || (fourth i || false))))
+none_cleared u h = λ i. list_any (λ code. gone code i) attentions
+  where
+    gone : (code : ℕ) → set.contains (set.retain u.pending (λ p. not (p.0 == h))) (h, code) ≡ false
+    gone code =
+        contains-retain-pair u.pending (λ x. not (x == h)) (h, code)
+        ∙ ap (λ b. set.contains u.pending (h, code) && not b) (eq-eqb h h refl) ∙ and-false (set.contains u.pending (h, code))

@@ -4,8 +4,7 @@ use Rattle.std.specs.FinSet as set
 use Rattle.std.proofs.lemmas.Bool.{or_from, not_from_false}
 use Rattle.std.proofs.Math.Bool.{and-false}
 use Rattle.std.proofs.Math.Seq.{set-append_seam}
-use Rattle.pr_attention.specs.declared.attention.Attention.TheVariants.{PowerOn, ReservationsPreempted, ReservationsReleased, RegistrationsPreempted}
-use Rattle.pr_attention.specs.Attentions.{Codes, no_code, code_of, is_attention, AreAttentions}
+use Rattle.pr_attention.specs.Attentions.{Codes, no_code, code_of, is_attention, AreAttentions, each_attention}
 use Rattle.pr_attention.proofs.lemmas.Sets.{same_codes, contains-no_code, contains-insert_code}
 use Rattle.pr_script.specs.Grammar.{script_fits}
 use Rattle.pr_roles.specs.Fitting.{is_alternative, is_same_alternative, is_task, is_task_of}
@@ -88,7 +87,7 @@ attentions_are codes are = same_codes (codes_of (attentions_in codes)) codes eac
     each q =
         contains-codes (attentions_in codes) no_code q
         ∙ (nothing_else (list_any (λ x. q == code_of x) (attentions_in codes)) q
-        ∙ (any-kept codes q (PowerOn ∷ ReservationsPreempted ∷ ReservationsReleased ∷ RegistrationsPreempted ∷ []) ∙ known q (set.contains codes q) refl))
+        ∙ (any-kept codes q each_attention ∙ known q (set.contains codes q) refl))
 
 any_in : {A : Type 0} (b : Bool) (q : A → Bool) (x : A) (xs : List A) → q x ≡ false → list_any q xs ≡ false → list_any q (cond b (x ∷ xs) xs) ≡ false
 any_in true q x xs first rest = or_from (q x) (list_any q xs) first rest
@@ -109,7 +108,7 @@ apart_still same p (x ∷ xs) h =
     apart_in (p x) same x (filter p xs) (any_fewer p (λ y. same y x) xs (not-true _ parts.0)) (apart_still same p xs parts.1)
 
 attentions_apart : (codes : Codes) → are_codes_distinct (attentions_in codes) ≡ true
-attentions_apart codes = apart_still (λ x y. code_of x == code_of y) (λ x. set.contains codes (code_of x)) (PowerOn ∷ ReservationsPreempted ∷ ReservationsReleased ∷ RegistrationsPreempted ∷ []) refl
+attentions_apart codes = apart_still (λ x y. code_of x == code_of y) (λ x. set.contains codes (code_of x)) each_attention refl
 
 -- what is kept of attentions that are written, if any are
 abbrev pub pending_kept : List Attention → Codes → Option Codes

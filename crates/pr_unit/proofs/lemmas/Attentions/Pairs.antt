@@ -65,6 +65,10 @@ contains-remove-pair s q p = set.contains-remove pair_cmp_total s q p ∙ ap (λ
 pub contains-insert-pair : (s : Pairs) (q p : ℕ × ℕ) → set.contains (set.insert s q) p ≡ ((p.0 == q.0 && p.1 == q.1) || set.contains s p)
 contains-insert-pair s q p = set.contains-insert pair_cmp_total s q p ∙ ap (λ b. b || set.contains s p) (pair_tied p q)
 
+-- those of the hosts that pass a test
+pub contains-retain-pair : (s : Pairs) (test : ℕ → Bool) (p : ℕ × ℕ) → set.contains (set.retain s (λ q. test q.0)) p ≡ (set.contains s p && test p.0)
+contains-retain-pair s test p = set.contains-retain s (λ q. test q.0) p (λ q tie. ap (λ (r : ℕ × ℕ). test r.0) (sym (pair_cmp-IsAntisymmetric p q tie)))
+
 any_with : (hosts : List ℕ) (code h x : ℕ) → list_any (eq_by_cmp pair_cmp (h, x)) (map (λ i. (i, code)) hosts) ≡ (list_any (eq_by_cmp nat_cmp h) hosts && x == code)
 any_with [] code h x = refl
 any_with (i ∷ is) code h x =

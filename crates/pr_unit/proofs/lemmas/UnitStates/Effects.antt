@@ -4,7 +4,6 @@ use Rattle.std.proofs.Common.{is_some}
 use Rattle.std.specs.FinSet as set
 use Rattle.pr_cdb.specs.declared.codes.TheConstants.{INVALID_FIELD_IN_CDB, INVALID_FIELD_IN_PARAMETER_LIST}
 use Rattle.pr_cdb.specs.declared.command.Kind.{Kind}
-use Rattle.pr_cdb.specs.Ranges.{Fits}
 use Rattle.pr_registry.specs.declared.change.Change.{Change}
 use Rattle.pr_registry.specs.declared.held.Held.{Held}
 use Rattle.pr_registry.specs.declared.held.Held.TheVariants.{One, All}
@@ -14,7 +13,7 @@ use Rattle.pr_registry.specs.Changes.{Case, ReplacesAll, ReplacesHolder, Removes
 use Rattle.pr_registry.specs.Effects.{without_registration}
 use Rattle.pr_registry.proofs.lemmas.States.{well_formed-registered, well_formed-unregistered, well_formed-reserved, well_formed-released, well_formed-cleared, well_formed-preempted}
 use Rattle.pr_registry.proofs.lemmas.ToldRegistrants.{AreRegistered, TellsRegistrants, tells_nobody, tells_on_unregister, tells_on_release, tells_on_clear, tells_on_preempt}
-use Rattle.pr_unit.specs.declared.demand.Demand.TheVariants.{Look, Read, Write, Register, Unregister, Reserve, Release, Clear, PreemptAll, Preempt}
+use Rattle.pr_unit.specs.declared.demand.Demand.TheVariants.{Register, Unregister, Reserve, Release, Clear, PreemptAll, Preempt}
 use Rattle.pr_unit.specs.Attentions.{is_attention}
 use Rattle.pr_unit.specs.Demands.{Asked, demand_of}
 use Rattle.pr_unit.specs.Conduct.{illegal, preempt_fault, preempt_all_fault, conduct}

@@ -2,6 +2,7 @@ use Rattle.std.proofs.Common.{◌≡◌, sym, ap, ◌∙◌, lit<, arith}
 use Rattle.std.proofs.lemmas.Bool.Decides.{nat_tests}
 use Rattle.pr_attention.specs.Flagged.{codes_of}
 use Rattle.pr_attention.proofs.lemmas.Bits.{codes_of-zero, same_bits, AreAttentions-codes_of}
+use Rattle.pr_attention.proofs.lemmas.Sets.{any-decides}
 use Rattle.pr_attention.proofs.pending.Pending.is_empty.Goals as goal
 
 pub returns-clause-value : goal.returns-clause-value
@@ -15,3 +16,6 @@ returns-clause-value c = (
 
 pub returns-clause-members : goal.returns-clause-members
 returns-clause-members c = rw (← c.self.view_is) (AreAttentions-codes_of c.self.inside.flags.0)
+
+pub returns-clause-any : goal.returns-clause-any
+returns-clause-any c = any-decides c.args.self.now c.is_empty.result (returns-clause-members c) (returns-clause-value c)
