@@ -19,6 +19,9 @@ pub const RESERVATIONS_RELEASED_BIT: u8 = 4;
 /// The bit of REGISTRATIONS PREEMPTED there.
 pub const REGISTRATIONS_PREEMPTED_BIT: u8 = 8;
 
+/// The bits of all four.
+pub(crate) const EVERY_BIT: u8 = 15;
+
 /// A set of attentions, with a bit for each.
 #[derive(Clone, Copy, Debug, PartialEq, Eq)]
 pub(crate) struct AttentionFlags(u8);

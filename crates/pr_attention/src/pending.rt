@@ -7,7 +7,7 @@ ghost use Rattle.pr_attention.specs.Attentions.{code_of, no_code, has_any, AreAt
 ghost use Rattle.pr_attention.specs.Flagged.{codes_of};
 
 use crate::Attention;
-use crate::flags::{AttentionFlags, flag};
+use crate::flags::{AttentionFlags, EVERY_BIT, flag};
 use bitflags::Flags;
 use pr_cdb::Sense;
 use std::marker::Model;
@@ -49,7 +49,7 @@ impl Pending {
         ensures { result ≡ codes_of bits }
     {
         Pending {
-            flags: AttentionFlags::from_bits_truncate(bits),
+            flags: AttentionFlags::from_bits_retain(bits & EVERY_BIT),
         }
     }
 
