@@ -66,7 +66,7 @@ within_becomes s from reach u v t to out left t3 t4 t5 few apart becomes is = re
         (
           told-lt q (t3 r) (t4 r) (t5 r) pending.0,
           λ code. contains-told u.pending t s.own code
-              ∙ (λ i. is_pending_after (pending.1 code i) (becomes.told_03 s.own r apart at i) (becomes.told_04 s.own r apart at i) (becomes.told_05 s.own r apart at i) code)
+              ∙ (λ i. is_pending_after (pending.1 code i) (becomes.told_03.others s.own r apart at i) (becomes.told_04.others s.own r apart at i) (becomes.told_05.others s.own r apart at i) code)
               ∙ sym (contains-codes_told q (t3 r) (t4 r) (t5 r) code),
         ),
         told_one reach r q (t3 r) (t4 r) (t5 r) (is.told r (let small = so.1 in omega arith)),

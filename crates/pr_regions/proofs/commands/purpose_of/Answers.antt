@@ -1,4 +1,4 @@
-use Rattle.pr_regions.proofs.Common.{◌≡◌, ℕ, ◌≤◌, true, List, Option, refl, sym, ◌∙◌, subst, HasNumber, number_in, MOST_KEYS}
+use Rattle.pr_regions.proofs.Common.{◌≡◌, ℕ, ◌≤◌, true, List, refl, sym, ◌∙◌, subst, number_in, MOST_KEYS}
 use Rattle.pr_unit.specs.declared.demand.Demand.TheVariants.{Register, Preempt}
 use Rattle.std.proofs.Common.{Some}
 use Rattle.std.specs.Option.{option_map_or}

@@ -2,6 +2,7 @@
 use Rattle.pr_regions.proofs.Common.{◌≡◌, ℕ, ◌≤◌, Bool, true, false, ◌≢◌, List, length, if◌then◌else◌, None, unwrap_or, sym, refl, ap, ◌∙◌, arith, has, codes_of, State, key_of, UnitState, Scope, number_of, key_at, Transition}
 use Rattle.std.specs.FinSet as set
 use Rattle.pr_registry.specs.declared.change.Change.{Change as Told}
+use Rattle.pr_registry.specs.Hosts.{Hosts}
 use Rattle.pr_unit.specs.UnitStates.{pending_after, is_pending}
 use Rattle.pr_unit.proofs.lemmas.Attentions.ToldAttentions.{is_pending_after, contains-told}
 use Rattle.pr_regions.specs.Regions.{Changes}
@@ -12,17 +13,19 @@ pub record Is (keys : List ℕ) (u : State) (g r : ℕ) : Type 0 where
   pub known : r ≤ length keys
   pub key : key_of u g ≡ key_at keys r
 
+-- those who are told are the others whose registration passes
+pub record AreTold (keys : List ℕ) (u : State) (from : ℕ) (told : Hosts) (passes : ℕ → Bool) : Type 0 where
+  pub others : (g r : ℕ) → g ≢ from → Is keys u g r → set.contains told g ≡ passes r
+  pub sender : set.contains told from ≡ false
+
 -- the change tells what the registry becomes, and who is told
 pub record Acts (keys : List ℕ) (hosts from : ℕ) (c : Transition) (u v : State) (t : Told) : Type 0 where
   pub sender : (r : ℕ) → Is keys u from r → Is keys v from (unwrap_or c.sender r)
   pub others : (g r : ℕ) → g ≢ from → Is keys u g r → key_of v g ≡ (if has c.removed r then None else key_of u g)
   pub reservation : c.reservation ≡ number_of hosts v.held
-  pub told_03 : (g r : ℕ) → g ≢ from → Is keys u g r → set.contains t.told_03 g ≡ has c.told_03 r
-  pub told_04 : (g r : ℕ) → g ≢ from → Is keys u g r → set.contains t.told_04 g ≡ has c.told_04 r
-  pub told_05 : (g r : ℕ) → g ≢ from → Is keys u g r → set.contains t.told_05 g ≡ has c.told_05 r
-  pub untold_03 : set.contains t.told_03 from ≡ false
-  pub untold_04 : set.contains t.told_04 from ≡ false
-  pub untold_05 : set.contains t.told_05 from ≡ false
+  pub told_03 : AreTold keys u from t.told_03 (has c.told_03)
+  pub told_04 : AreTold keys u from t.told_04 (has c.told_04)
+  pub told_05 : AreTold keys u from t.told_05 (has c.told_05)
 
 -- the state of a unit once its registry is v and these are told
 abbrev pub then_in : UnitState → State → Told → UnitState
@@ -55,12 +58,12 @@ changes s from c u v t acts = record {
   told = λ r q other so pending.
       let is : Is s.keys u.registry s.own r = record { known = so.1; key = so.2 } in (
         told-lt q (has c.told_03 r) (has c.told_04 r) (has c.told_05 r) pending.0,
-        λ code. pending_told u v t s.own q (has c.told_03 r) (has c.told_04 r) (has c.told_05 r) (acts.told_03 s.own r other is) (acts.told_04 s.own r other is) (acts.told_05 s.own r other is) pending.1 code
+        λ code. pending_told u v t s.own q (has c.told_03 r) (has c.told_04 r) (has c.told_05 r) (acts.told_03.others s.own r other is) (acts.told_04.others s.own r other is) (acts.told_05.others s.own r other is) pending.1 code
             ∙ sym (contains-codes_told q (has c.told_03 r) (has c.told_04 r) (has c.told_05 r) code),
       );
   untold = λ q same pending. (
     pending.0,
-    λ code. pending_told u v t s.own q false false false (ap (set.contains t.told_03) same ∙ acts.untold_03) (ap (set.contains t.told_04) same ∙ acts.untold_04) (ap (set.contains t.told_05) same ∙ acts.untold_05) pending.1 code
+    λ code. pending_told u v t s.own q false false false (ap (set.contains t.told_03) same ∙ acts.told_03.sender) (ap (set.contains t.told_04) same ∙ acts.told_04.sender) (ap (set.contains t.told_05) same ∙ acts.told_05.sender) pending.1 code
         ∙ nothing_more (set.contains (codes_of q) code) code,
   );
 }

@@ -8,21 +8,21 @@ use Rattle.pr_registry.specs.Registrations.{others, registrants, holds_alone}
 use Rattle.pr_registry.specs.Changes.{is_released, change_on_release, change_on_clear}
 use Rattle.pr_registry.specs.Effects.{with_registration as register, without_registration, after_release, after_clear}
 use Rattle.pr_registry.proofs.lemmas.Sets.{contains-just, contains-remove, contains-hosts_in, get-insert, get-empty}
+use Rattle.pr_sets.specs.declared.bit_set.BitSet.{BitSet}
+use Rattle.pr_sets.specs.BitSets.{has}
 use Rattle.pr_views.proofs.lemmas.Possibilities.Numbers.{same_registration}
+use Rattle.pr_regions.specs.Transitions.{HasThose}
 use Rattle.pr_regions.proofs.lemmas.Showing.Numbers.{AreDistinct, is_some-key_at}
-use Rattle.pr_regions.proofs.lemmas.Regions.ChangedStates.{Is, Acts}
+use Rattle.pr_regions.proofs.lemmas.Regions.ChangedStates.{Is, Acts, AreTold}
 
 -- the registry becomes this, as tests of registrations say
 pub record Becomes (keys : List ℕ) (hosts from : ℕ) (to : Option ℕ) (out : ℕ → Bool) (left : ℕ) (tells_03 tells_04 tells_05 : ℕ → Bool) (u v : State) (t : Told) : Type 0 where
   pub sender : (r : ℕ) → Is keys u from r → Is keys v from (unwrap_or to r)
   pub others : (g r : ℕ) → g ≢ from → Is keys u g r → key_of v g ≡ (if out r then None else key_of u g)
   pub reservation : left ≡ number_of hosts v.held
-  pub told_03 : (g r : ℕ) → g ≢ from → Is keys u g r → set.contains t.told_03 g ≡ tells_03 r
-  pub told_04 : (g r : ℕ) → g ≢ from → Is keys u g r → set.contains t.told_04 g ≡ tells_04 r
-  pub told_05 : (g r : ℕ) → g ≢ from → Is keys u g r → set.contains t.told_05 g ≡ tells_05 r
-  pub untold_03 : set.contains t.told_03 from ≡ false
-  pub untold_04 : set.contains t.told_04 from ≡ false
-  pub untold_05 : set.contains t.told_05 from ≡ false
+  pub told_03 : AreTold keys u from t.told_03 tells_03
+  pub told_04 : AreTold keys u from t.told_04 tells_04
+  pub told_05 : AreTold keys u from t.told_05 tells_05
 
 pub acts : (keys : List ℕ) (hosts from : ℕ) (to : Option ℕ) (out : ℕ → Bool) (left : ℕ) (t3 t4 t5 : ℕ → Bool) (u v : State) (t : Told) (c : Transition)
     → length keys ≤ MOST_KEYS → Does c to out left t3 t4 t5 → Becomes keys hosts from to out left t3 t4 t5 u v t → Acts keys hosts from c u v t
@@ -30,16 +30,16 @@ acts keys hosts from to out left t3 t4 t5 u v t c few does b = record {
   sender = λ r is. subst (λ (o : Option ℕ). Is keys v from (unwrap_or o r)) (sym does.sender) (b.sender r is);
   others = λ g r other is. b.others g r other is ∙ ap (λ x. if x then None else key_of u g) (sym (does.removed r (within r is)));
   reservation = does.reservation ∙ b.reservation;
-  told_03 = λ g r other is. b.told_03 g r other is ∙ sym (does.told_03 r (within r is));
-  told_04 = λ g r other is. b.told_04 g r other is ∙ sym (does.told_04 r (within r is));
-  told_05 = λ g r other is. b.told_05 g r other is ∙ sym (does.told_05 r (within r is));
-  untold_03 = b.untold_03;
-  untold_04 = b.untold_04;
-  untold_05 = b.untold_05;
+  told_03 = those c.told_03 b.told_03 does.told_03;
+  told_04 = those c.told_04 b.told_04 does.told_04;
+  told_05 = those c.told_05 b.told_05 does.told_05;
 }
   where
     within : (r : ℕ) {g : ℕ} → Is keys u g r → r ≤ MOST_KEYS
     within r is = let small = is.known in omega arith
+
+    those : {told : Hosts} {passes : ℕ → Bool} (w : BitSet) → AreTold keys u from told passes → HasThose w passes → AreTold keys u from told (has w)
+    those w are has_those = record { others = λ g r other is. are.others g r other is ∙ sym (has_those r (within r is)); sender = are.sender }
 
 -- ---- who is told
 
@@ -74,13 +74,15 @@ is_key-number keys u g r j k once fits named is = ap (λ o. is_key o k) is.key �
     at (inl same) = ap (λ n. is_key (key_at keys n) k) same.1 ∙ ap (λ o. is_key o k) named ∙ eq-eqb k k refl ∙ sym same.0
     at (inr other) = differs (key_at keys r) (λ there. same_registration keys r j once is.known fits (there ∙ sym named)) other.1 ∙ sym other.0
 
-contains-others_if : (keys : List ℕ) (u : State) (from g r : ℕ) (b : Bool) → g ≢ from → Is keys u g r → set.contains (if b then others u from else nobody) g ≡ told_if b r
-contains-others_if keys u from g r true other is = contains-others keys u from g r other is
-contains-others_if keys u from g r false other is = contains-nobody g
+pub nobody_told : (keys : List ℕ) (u : State) (from : ℕ) → AreTold keys u from nobody never
+nobody_told keys u from = record { others = λ g r other is. contains-nobody g; sender = contains-nobody from }
 
-contains-others_if_itself : (u : State) (from : ℕ) (b : Bool) → set.contains (if b then others u from else nobody) from ≡ false
-contains-others_if_itself u from true = contains-others_itself u from
-contains-others_if_itself u from false = contains-nobody from
+pub others_told : (keys : List ℕ) (u : State) (from : ℕ) → AreTold keys u from (others u from) is_of_registrant
+others_told keys u from = record { others = contains-others keys u from; sender = contains-others_itself u from }
+
+others_told_if : (keys : List ℕ) (u : State) (from : ℕ) (b : Bool) → AreTold keys u from (if b then others u from else nobody) (told_if b)
+others_told_if keys u from true = record { others = (others_told keys u from).others; sender = contains-others_itself u from }
+others_told_if keys u from false = record { others = λ g r other is. contains-nobody g; sender = contains-nobody from }
 
 -- ---- where the registrations stay
 
@@ -89,12 +91,9 @@ still keys hosts from u v same = record {
   sender = λ r is. record { known = is.known; key = same from ∙ is.key };
   others = λ g r other is. same g;
   reservation = refl;
-  told_03 = λ g r other is. contains-nobody g;
-  told_04 = λ g r other is. contains-nobody g;
-  told_05 = λ g r other is. contains-nobody g;
-  untold_03 = contains-nobody from;
-  untold_04 = contains-nobody from;
-  untold_05 = contains-nobody from;
+  told_03 = nobody_told keys u from;
+  told_04 = nobody_told keys u from;
+  told_05 = nobody_told keys u from;
 }
 
 pub on_release : (keys : List ℕ) (hosts from : ℕ) (t : Kind) (u : State)
@@ -103,12 +102,9 @@ on_release keys hosts from t u = record {
   sender = λ r is. record { known = is.known; key = is.key };
   others = λ g r other is. refl;
   reservation = refl;
-  told_03 = λ g r other is. contains-nobody g;
-  told_04 = λ g r other is. contains-others_if keys u from g r (is_released u from t && is_told_of_loss u.held) other is;
-  told_05 = λ g r other is. contains-nobody g;
-  untold_03 = contains-nobody from;
-  untold_04 = contains-others_if_itself u from (is_released u from t && is_told_of_loss u.held);
-  untold_05 = contains-nobody from;
+  told_03 = nobody_told keys u from;
+  told_04 = others_told_if keys u from (is_released u from t && is_told_of_loss u.held);
+  told_05 = nobody_told keys u from;
 }
 
 -- ---- where some change
@@ -119,12 +115,9 @@ on_register keys hosts from j k u fits named = record {
   sender = λ r is. record { known = fits; key = get-insert u.keys from k from ∙ ap (λ b. cond b (Some k) (map.get u.keys from)) (eq-eqb from from refl) ∙ sym named };
   others = λ g r other is. get-insert u.keys from k g ∙ ap (λ b. cond b (Some k) (map.get u.keys g)) (ne_eqb g from other);
   reservation = refl;
-  told_03 = λ g r other is. contains-nobody g;
-  told_04 = λ g r other is. contains-nobody g;
-  told_05 = λ g r other is. contains-nobody g;
-  untold_03 = contains-nobody from;
-  untold_04 = contains-nobody from;
-  untold_05 = contains-nobody from;
+  told_03 = nobody_told keys u from;
+  told_04 = nobody_told keys u from;
+  told_05 = nobody_told keys u from;
 }
 
 pub on_clear : (keys : List ℕ) (hosts from : ℕ) (u : State) → Becomes keys hosts from (Some 0) is_of_registrant 0 is_of_registrant never never u (after_clear u) (change_on_clear u from)
@@ -132,12 +125,9 @@ on_clear keys hosts from u = record {
   sender = λ r is. record { known = omega arith; key = get-empty from };
   others = λ g r other is. get-empty g ∙ none keys g r is;
   reservation = refl;
-  told_03 = λ g r other is. contains-others keys u from g r other is;
-  told_04 = λ g r other is. contains-nobody g;
-  told_05 = λ g r other is. contains-nobody g;
-  untold_03 = contains-others_itself u from;
-  untold_04 = contains-nobody from;
-  untold_05 = contains-nobody from;
+  told_03 = others_told keys u from;
+  told_04 = nobody_told keys u from;
+  told_05 = nobody_told keys u from;
 }
   where
     none : (keys : List ℕ) (g r : ℕ) → Is keys u g r → None ≡ (if is_of_registrant r then None else key_of u g)
@@ -156,10 +146,7 @@ on_unregister keys hosts from u = record {
   };
   others = λ g r other is. get-without u.keys (just from) g ∙ ap (λ b. if b then None else map.get u.keys g) (contains-just from g ∙ ne_eqb g from other);
   reservation = refl;
-  told_03 = λ g r other is. contains-nobody g;
-  told_04 = λ g r other is. contains-others_if keys u from g r (holds_alone u.held from && is_told_of_loss u.held) other is;
-  told_05 = λ g r other is. contains-nobody g;
-  untold_03 = contains-nobody from;
-  untold_04 = contains-others_if_itself u from (holds_alone u.held from && is_told_of_loss u.held);
-  untold_05 = contains-nobody from;
+  told_03 = nobody_told keys u from;
+  told_04 = others_told_if keys u from (holds_alone u.held from && is_told_of_loss u.held);
+  told_05 = nobody_told keys u from;
 }

@@ -9,8 +9,8 @@ use Rattle.pr_registry.specs.Changes.{Case, ReplacesHolder, RemovesKey, removed_
 use Rattle.pr_registry.specs.Effects.{next, held_after_preempt, after_preempt}
 use Rattle.pr_registry.proofs.lemmas.Sets.{contains-remove, contains-difference, contains-hosts_with}
 use Rattle.pr_regions.proofs.lemmas.Showing.Numbers.{AreDistinct}
-use Rattle.pr_regions.proofs.lemmas.Regions.ChangedStates.{Is}
-use Rattle.pr_regions.proofs.lemmas.Regions.Effects.{Becomes, contains-others, contains-others_itself, is_key-number, not_itself}
+use Rattle.pr_regions.proofs.lemmas.Regions.ChangedStates.{Is, AreTold}
+use Rattle.pr_regions.proofs.lemmas.Regions.Effects.{Becomes, contains-others, contains-others_itself, is_key-number, nobody_told, not_itself}
 
 -- what it makes of a registry in this case
 abbrev pub preempted_as : State → ℕ → ℕ → Kind → Case → State
@@ -52,12 +52,9 @@ on_preempt_all keys hosts from t u = record {
   sender = λ r is. record { known = is.known; key = without_some u (set.remove (hosts_in u.keys) from) from false (not_itself (hosts_in u.keys) from) ∙ is.key };
   others = λ g r other is. without_some u (set.remove (hosts_in u.keys) from) g (is_of_registrant r) (all_but g r other is);
   reservation = refl;
-  told_03 = λ g r other is. contains-nobody g;
-  told_04 = λ g r other is. contains-nobody g;
-  told_05 = λ g r other is. removed_but (set.remove (hosts_in u.keys) from) from g other ∙ all_but g r other is;
-  untold_03 = contains-nobody from;
-  untold_04 = contains-nobody from;
-  untold_05 = not_itself (set.remove (hosts_in u.keys) from) from;
+  told_03 = nobody_told keys u from;
+  told_04 = nobody_told keys u from;
+  told_05 = record { others = λ g r other is. removed_but (set.remove (hosts_in u.keys) from) from g other ∙ all_but g r other is; sender = not_itself (set.remove (hosts_in u.keys) from) from };
 }
   where
     all_but : (g r : ℕ) → g ≢ from → Is keys u g r → set.contains (set.remove (hosts_in u.keys) from) g ≡ is_of_registrant r
@@ -73,17 +70,15 @@ contains-others_with : (keys : List ℕ) (u : State) (from g r j k : ℕ) → Ar
     → set.contains (others_with u k from) g ≡ (r == j)
 contains-others_with keys u from g r j k once fits named other is = removed_but (hosts_with u.keys k) from g other ∙ with_key keys u g r j k once fits named is
 
-told_the_rest : (keys : List ℕ) (u : State) (from g r j k : ℕ) (b : Bool) → AreDistinct keys → j ≤ length keys → key_at keys j ≡ Some k → g ≢ from → Is keys u g r
-    → set.contains (if b then set.difference (others u from) (others_with u k from) else nobody) g ≡ told_but b j r
-told_the_rest keys u from g r j k true once fits named other is =
-    contains-difference (others u from) (others_with u k from) g
-    ∙ (λ i. contains-others keys u from g r other is i && not (contains-others_with keys u from g r j k once fits named other is i))
-told_the_rest keys u from g r j k false once fits named other is = contains-nobody g
-
-untold_itself : (u : State) (k from : ℕ) (b : Bool) → set.contains (if b then set.difference (others u from) (others_with u k from) else nobody) from ≡ false
-untold_itself u k from true =
-    contains-difference (others u from) (others_with u k from) from ∙ ap (λ b. b && not (set.contains (others_with u k from) from)) (contains-others_itself u from)
-untold_itself u k from false = contains-nobody from
+rest_told : (keys : List ℕ) (u : State) (from j k : ℕ) (b : Bool) → AreDistinct keys → j ≤ length keys → key_at keys j ≡ Some k
+    → AreTold keys u from (if b then set.difference (others u from) (others_with u k from) else nobody) (told_but b j)
+rest_told keys u from j k true once fits named = record {
+  others = λ g r other is.
+      contains-difference (others u from) (others_with u k from) g
+      ∙ (λ i. contains-others keys u from g r other is i && not (contains-others_with keys u from g r j k once fits named other is i));
+  sender = contains-difference (others u from) (others_with u k from) from ∙ ap (λ b. b && not (set.contains (others_with u k from) from)) (contains-others_itself u from);
+}
+rest_told keys u from j k false once fits named = record { others = λ g r other is. contains-nobody g; sender = contains-nobody from }
 
 pub on_preempt_holder : (keys : List ℕ) (hosts from j k : ℕ) (t held : Kind) (u : State) → AreDistinct keys → j ≤ length keys → key_at keys j ≡ Some k
     → Becomes keys hosts from None (λ r. r == j) (number_of hosts (Some (new_reservation t from))) never (told_but (not (is_kind held t)) j) (λ r. r == j)
@@ -92,12 +87,9 @@ on_preempt_holder keys hosts from j k t held u once fits named = record {
   sender = λ r is. record { known = is.known; key = without_some u (others_with u k from) from false (not_itself (hosts_with u.keys k) from) ∙ is.key };
   others = λ g r other is. without_some u (others_with u k from) g (r == j) (contains-others_with keys u from g r j k once fits named other is);
   reservation = refl;
-  told_03 = λ g r other is. contains-nobody g;
-  told_04 = λ g r other is. told_the_rest keys u from g r j k (not (is_kind held t)) once fits named other is;
-  told_05 = λ g r other is. removed_but (others_with u k from) from g other ∙ contains-others_with keys u from g r j k once fits named other is;
-  untold_03 = contains-nobody from;
-  untold_04 = untold_itself u k from (not (is_kind held t));
-  untold_05 = not_itself (others_with u k from) from;
+  told_03 = nobody_told keys u from;
+  told_04 = rest_told keys u from j k (not (is_kind held t)) once fits named;
+  told_05 = record { others = λ g r other is. removed_but (others_with u k from) from g other ∙ contains-others_with keys u from g r j k once fits named other is; sender = not_itself (others_with u k from) from };
 }
 
 -- ---- any other key
@@ -110,12 +102,9 @@ on_preempt_key keys hosts from j k t u own once fits named has = record {
   sender = λ r is. sender_left own r is (has r is);
   others = λ g r other is. without_some u (hosts_with u.keys k) g (r == j) (with_key keys u g r j k once fits named is);
   reservation = refl;
-  told_03 = λ g r other is. contains-nobody g;
-  told_04 = λ g r other is. contains-nobody g;
-  told_05 = λ g r other is. contains-others_with keys u from g r j k once fits named other is;
-  untold_03 = contains-nobody from;
-  untold_04 = contains-nobody from;
-  untold_05 = not_itself (hosts_with u.keys k) from;
+  told_03 = nobody_told keys u from;
+  told_04 = nobody_told keys u from;
+  told_05 = record { others = λ g r other is. contains-others_with keys u from g r j k once fits named other is; sender = not_itself (hosts_with u.keys k) from };
 }
   where
     sender_left : (own : Bool) (r : ℕ) → Is keys u from r → (r == j) ≡ own → Is keys (preempted_as u from k t RemovesKey) from (unwrap_or (lost_if own) r)
