@@ -86,15 +86,8 @@ fn fault_of(command: &Command) -> Option<Sense>
             INVALID_FIELD_IN_PARAMETER_LIST,
             0,
         )),
-        Command::TestUnitReady
-        | Command::RequestSense
-        | Command::ReadKeys { .. }
-        | Command::ReadReservation { .. }
-        | Command::ReportCapabilities { .. }
-        | Command::Register { .. }
-        | Command::RegisterIgnore { .. }
-        | Command::Reserve { .. }
-        | Command::Clear { .. } => None,
+        // That no other can be at fault is what the contract says.
+        _ => None,
     }
 }
 

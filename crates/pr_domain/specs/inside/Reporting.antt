@@ -1,5 +1,5 @@
 -- What is found of each landing, and where the possibilities of a landing come from.
-use Rattle.std.specs.Prelude.{◌≡◌, ◌↔◌, ◌⊎◌, ℕ, zero, suc, ◌<◌, Bool, true, false, ◌==◌, ◌&&◌, not, nat_lt, List, Option, Some, None}
+use Rattle.std.specs.Prelude.{◌≡◌, ◌≢◌, ◌↔◌, ◌⊎◌, ℕ, zero, suc, ◌<◌, Bool, true, false, ◌==◌, ◌&&◌, not, nat_lt, List, Option, Some, None}
 use Rattle.std.specs.FinSet as set
 use Rattle.std.specs.List.{All, slice_get}
 use Rattle.pr_cdb.specs.declared.command.Command.{Command}
@@ -9,7 +9,6 @@ use Rattle.pr_cdb.specs.declared.wire.Request.TheVariants.{Plain}
 use Rattle.pr_attention.specs.declared.attention.Attention.{Attention}
 use Rattle.pr_attention.specs.Attentions.{power_on, code_of}
 use Rattle.pr_attention.specs.Flagged.{codes_of}
-use Rattle.pr_attention.specs.declared.attention.Attention.TheVariants.{PowerOn, ReservationsPreempted, ReservationsReleased, RegistrationsPreempted}
 use Rattle.pr_unit.specs.UnitStates.{UnitState, is_pending, is_any_pending, effect, after_report}
 use Rattle.pr_unit.specs.Conduct.{command_conflicts, command_fault}
 use Rattle.pr_unit.specs.Replies.{good, check, conflict, busy, full, report, data_of}
@@ -156,12 +155,13 @@ pub data Ending : Type 0 where
 abbrev pub IsReport : Command → ℕ → UnitState → Attention → Reply → UnitState → Type 0
 IsReport c h u a r w = (is_pending u h (code_of a) ≡ true) × (r ≡ report (Plain c) (code_of a)) × (w ≡ after_report u h (code_of a))
 
--- it is so after power on, and else where there is no conflict
+-- it is not that of power on
+abbrev pub IsLater : Attention → Type 0
+IsLater a = code_of a ≢ power_on
+
+-- a later one comes after power on, and where there is no conflict
 abbrev pub MayReport : Command → ℕ → UnitState → Attention → Type 0
-MayReport c h u PowerOn = Unit {0}
-MayReport c h u ReservationsPreempted = (is_pending u h power_on ≡ false) × (command_conflicts u.registry h c ≡ false)
-MayReport c h u ReservationsReleased = (is_pending u h power_on ≡ false) × (command_conflicts u.registry h c ≡ false)
-MayReport c h u RegistrationsPreempted = (is_pending u h power_on ≡ false) × (command_conflicts u.registry h c ≡ false)
+MayReport c h u a = IsLater a → (is_pending u h power_on ≡ false) × (command_conflicts u.registry h c ≡ false)
 
 abbrev pub refusal : Unserved → Reply
 refusal refused.Busy = busy
@@ -198,13 +198,6 @@ pub record LandsBy (v : View) (c : Command) (tests : List Test) (ending : Ending
   pub ends : Ends ending c v.scope.own from reply after
   pub landing : IsLanding tests reply l
   pub is : IsSo v.scope after i
-
--- it is not that of power on
-abbrev pub IsLater : Attention → Type 0
-IsLater PowerOn = ⊥
-IsLater ReservationsPreempted = Unit {0}
-IsLater ReservationsReleased = Unit {0}
-IsLater RegistrationsPreempted = Unit {0}
 
 -- GOOD with the data taken by this arm
 abbrev pub LandsGood : View → Command → List Test → ℕ → Landing → Item → Type 0

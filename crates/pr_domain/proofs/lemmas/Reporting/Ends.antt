@@ -1,33 +1,33 @@
 -- A step of a command is one of the ways in which it ends.
-use Rattle.pr_domain.proofs.Common.{◌≡◌, ℕ, Bool, true, false, ◌⊎◌, IsTrue, Some, None, Option, sym, refl, ap, ◌∙◌, inl, inr, or_left, or_right, Command, Reply, Sense, Plain, power_on, reservations_preempted, reservations_released, code_of, Attention, PowerOn, ReservationsPreempted, ReservationsReleased, RegistrationsPreempted, command_conflicts, command_fault, report, Step, UnitState, is_pending, is_any_pending, IsWellFormed, after_report, Answered, Refusals, Ending, Reports, Conflicts, Fails, EndsGood, Refuses, Ends}
-use Rattle.pr_attention.proofs.lemmas.FourCodes.{which}
+use Rattle.pr_domain.proofs.Common.{◌≡◌, ℕ, Bool, true, false, ◌⊎◌, IsTrue, Some, None, Option, sym, refl, ap, ◌∙◌, inl, inr, cases_eq, Command, Reply, Sense, Plain, power_on, code_of, Attention, PowerOn, command_conflicts, command_fault, report, Step, UnitState, is_pending, is_any_pending, IsWellFormed, after_report, Answered, Refusals, Ending, Reports, Conflicts, Fails, EndsGood, Refuses, Ends}
+use Rattle.pr_attention.specs.Attentions.{each_attention}
+use Rattle.pr_attention.proofs.lemmas.FourCodes.{listed, which}
+use Rattle.pr_roles.proofs.lemmas.FirstElements.Tests.{any_from}
 use Rattle.pr_unit.specs.Steps.{Reports as ReportsSome}
 use Rattle.pr_roles.specs.declared.how.How.TheVariants as answer
 use Rattle.pr_roles.specs.declared.how.How.{How}
 use Rattle.pr_roles.specs.Answers.{Answers}
 use Rattle.pr_roles.specs.DeclaredRefusals.{is_among}
 use Rattle.pr_domain.specs.declared.reporting.Unserved.TheVariants as refused
-use Rattle.pr_domain.specs.inside.Reporting.{IsReport, comes}
+use Rattle.pr_domain.specs.inside.Reporting.{IsLater, IsReport, MayReport, comes}
 
 report_ends : (d : Refusals) (u : UnitState) (h : ℕ) (c : Command) (r : Reply) (w : UnitState) → IsWellFormed u → is_pending u h power_on ≡ false → command_conflicts u.registry h c ≡ false
     → ReportsSome u h (Plain c) r w → (ending : Ending) × IsTrue (comes d ending) × Ends ending c h u r w
 report_ends d u h c r w formed calm free step = by (which step.code (formed.pending h step.code step.pending).1)
   where
     by : (a : Attention) × (step.code ≡ code_of a) → (ending : Ending) × IsTrue (comes d ending) × Ends ending c h u r w
-    by (PowerOn, same) = let wrong = ap (is_pending u h) same in let there = step.pending in cc
-    by (ReservationsPreempted, same) =
-        (Reports ReservationsPreempted, refl, ((calm, free), (ap (is_pending u h) (sym same) ∙ step.pending, step.reply ∙ ap (report (Plain c)) same, step.after ∙ ap (after_report u h) same)))
-    by (ReservationsReleased, same) =
-        (Reports ReservationsReleased, refl, ((calm, free), (ap (is_pending u h) (sym same) ∙ step.pending, step.reply ∙ ap (report (Plain c)) same, step.after ∙ ap (after_report u h) same)))
-    by (RegistrationsPreempted, same) =
-        (Reports RegistrationsPreempted, refl, ((calm, free), (ap (is_pending u h) (sym same) ∙ step.pending, step.reply ∙ ap (report (Plain c)) same, step.after ∙ ap (after_report u h) same)))
+    by (a, same) = (
+      Reports a,
+      refl,
+      (λ later. (calm, free), (ap (is_pending u h) (sym same) ∙ step.pending, step.reply ∙ ap (report (Plain c)) same, step.after ∙ ap (after_report u h) same)),
+    )
 
 step_ends : (d : Refusals) (u : UnitState) (h : ℕ) (c : Command) (r : Reply) (w : UnitState) → IsWellFormed u → Step u h (Plain c) r w → (ending : Ending) × IsTrue (comes d ending) × Ends ending c h u r w
 step_ends d u h c r w formed step = at (is_pending u h power_on) (command_conflicts u.registry h c) (is_any_pending u h) (command_fault u.registry h c) refl refl refl refl
   where
     at : (p q any : Bool) (f : Option Sense) → is_pending u h power_on ≡ p → command_conflicts u.registry h c ≡ q → is_any_pending u h ≡ any → command_fault u.registry h c ≡ f
         → (ending : Ending) × IsTrue (comes d ending) × Ends ending c h u r w
-    at true q any f p_is q_is any_is f_is = let s = rw p_is at step in (Reports PowerOn, refl, (tt, (p_is, s.0, s.1)))
+    at true q any f p_is q_is any_is f_is = let s = rw p_is at step in (Reports PowerOn, refl, (λ later. absurd (later refl), (p_is, s.0, s.1)))
     at false true any f p_is q_is any_is f_is = let s = rw (p_is, q_is) at step in (Conflicts, refl, (p_is, q_is, s.0, s.1))
     at false false true f p_is q_is any_is f_is = let s = rw (any_is, q_is, p_is) at step in report_ends d u h c r w formed p_is q_is s
     at false false false (Some sense) p_is q_is any_is f_is = let s = rw (any_is, f_is, q_is, p_is) at step in (Fails, refl, (any_is, q_is, sense, f_is, s.0, s.1))
@@ -44,11 +44,9 @@ answer_ends d u h c r w formed x = by x.how x.declared x.answer
 
 -- one that is pending is any
 pub any_pending : (u : UnitState) (h : ℕ) (a : Attention) → is_pending u h (code_of a) ≡ true → is_any_pending u h ≡ true
-any_pending u h PowerOn is = or_left _ _ is
-any_pending u h ReservationsPreempted is = or_right (is_pending u h power_on) _ (or_left _ _ is)
-any_pending u h ReservationsReleased is = or_right (is_pending u h power_on) _ (or_right (is_pending u h reservations_preempted) _ (or_left _ _ is))
-any_pending u h RegistrationsPreempted is =
-    or_right (is_pending u h power_on) _ (or_right (is_pending u h reservations_preempted) _ (or_right (is_pending u h reservations_released) _ (or_left _ _ is)))
+any_pending u h a is =
+    let there = listed a in
+    any_from (λ x. is_pending u h (code_of x)) each_attention there.0 a there.1 there.2 is
 
 -- where nothing is pending, no power on is
 pub calm_from_quiet : (u : UnitState) (h : ℕ) → is_any_pending u h ≡ false → is_pending u h power_on ≡ false
@@ -58,16 +56,17 @@ calm_from_quiet u h quiet = at (is_pending u h power_on) refl
     at true is = let wrong = any_pending u h PowerOn is in cc
     at false is = is
 
-later_step : (u : UnitState) (h : ℕ) (c : Command) (a : Attention) (r : Reply) (w : UnitState) → is_pending u h power_on ≡ false → command_conflicts u.registry h c ≡ false
-    → IsReport c h u a r w → Step u h (Plain c) r w
-later_step u h c a r w calm free (there, reply, after) =
-    rw (any_pending u h a there, free, calm) (record { code = code_of a; pending = there; reply = reply; after = after })
+report_step : (u : UnitState) (h : ℕ) (c : Command) (a : Attention) (r : Reply) (w : UnitState) → MayReport c h u a → IsReport c h u a r w → Step u h (Plain c) r w
+report_step u h c a r w may (there, reply, after) = by (cases_eq (code_of a) power_on)
+  where
+    by : (code_of a ≡ power_on) ⊎ IsLater a → Step u h (Plain c) r w
+    by (inl first) = rw (ap (is_pending u h) (sym first) ∙ there) (reply ∙ ap (report (Plain c)) first, after ∙ ap (after_report u h) first)
+    by (inr later) =
+        let both = may later in
+        rw (any_pending u h a there, both.1, both.0) (record { code = code_of a; pending = there; reply = reply; after = after })
 
 pub steps_or_stays : (ending : Ending) (u : UnitState) (h : ℕ) (c : Command) (r : Reply) (w : UnitState) → Ends ending c h u r w → Step u h (Plain c) r w ⊎ (w ≡ u)
-steps_or_stays (Reports PowerOn) u h c r w ends = inl (rw ends.1.0 (ends.1.1, ends.1.2))
-steps_or_stays (Reports ReservationsPreempted) u h c r w ends = inl (later_step u h c ReservationsPreempted r w ends.0.0 ends.0.1 ends.1)
-steps_or_stays (Reports ReservationsReleased) u h c r w ends = inl (later_step u h c ReservationsReleased r w ends.0.0 ends.0.1 ends.1)
-steps_or_stays (Reports RegistrationsPreempted) u h c r w ends = inl (later_step u h c RegistrationsPreempted r w ends.0.0 ends.0.1 ends.1)
+steps_or_stays (Reports a) u h c r w ends = inl (report_step u h c a r w ends.0 ends.1)
 steps_or_stays Conflicts u h c r w ends = inl (rw (ends.0, ends.1) (ends.2, ends.3))
 steps_or_stays Fails u h c r w ends = inl (rw (ends.0, ends.3, ends.1, calm_from_quiet u h ends.0) (ends.4, ends.5))
 steps_or_stays EndsGood u h c r w ends = inl (rw (ends.0, ends.2, ends.1, calm_from_quiet u h ends.0) (ends.3, ends.4))
@@ -76,10 +75,7 @@ steps_or_stays (Refuses k) u h c r w ends = inr ends.1
 pub ends_answer : (d : Refusals) (ending : Ending) (u : UnitState) (h : ℕ) (c : Command) (r : Reply) (w : UnitState) → IsTrue (comes d ending) → Ends ending c h u r w → Answered d u h (Plain c) r w
 ends_answer d (Refuses refused.Full) u h c r w declared ends = record { how = answer.Full; declared = declared; answer = ends }
 ends_answer d (Refuses refused.Busy) u h c r w declared ends = record { how = answer.Busy; declared = declared; answer = ends }
-ends_answer d (Reports PowerOn) u h c r w declared ends = record { how = answer.Plain; declared = refl; answer = rw ends.1.0 (ends.1.1, ends.1.2) }
-ends_answer d (Reports ReservationsPreempted) u h c r w declared ends = record { how = answer.Plain; declared = refl; answer = later_step u h c ReservationsPreempted r w ends.0.0 ends.0.1 ends.1 }
-ends_answer d (Reports ReservationsReleased) u h c r w declared ends = record { how = answer.Plain; declared = refl; answer = later_step u h c ReservationsReleased r w ends.0.0 ends.0.1 ends.1 }
-ends_answer d (Reports RegistrationsPreempted) u h c r w declared ends = record { how = answer.Plain; declared = refl; answer = later_step u h c RegistrationsPreempted r w ends.0.0 ends.0.1 ends.1 }
+ends_answer d (Reports a) u h c r w declared ends = record { how = answer.Plain; declared = refl; answer = report_step u h c a r w ends.0 ends.1 }
 ends_answer d Conflicts u h c r w declared ends = record { how = answer.Plain; declared = refl; answer = rw (ends.0, ends.1) (ends.2, ends.3) }
 ends_answer d Fails u h c r w declared ends = record { how = answer.Plain; declared = refl; answer = rw (ends.0, ends.3, ends.1, calm_from_quiet u h ends.0) (ends.4, ends.5) }
 ends_answer d EndsGood u h c r w declared ends = record { how = answer.Plain; declared = refl; answer = rw (ends.0, ends.2, ends.1, calm_from_quiet u h ends.0) (ends.3, ends.4) }

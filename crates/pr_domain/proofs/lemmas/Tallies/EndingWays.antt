@@ -81,8 +81,7 @@ module _ (q : Sending) (tally : IsTallied q) where
       (λ u r w ends. subst (λ x. IsLanding q.asked.tests.now x l) (sym ends.0) landing)
 
   may : (a : Attention) → IsLater a → (u : UnitState) → MayReport q.asked.command q.sender u a ↔ ((is_pending u q.sender power_on ≡ false) × (command_conflicts u.registry q.sender q.asked.command ≡ false))
-  may PowerOn later u = absurd later
-  may _ later u = (λ x. x, λ x. x)
+  may a later u = (λ may_report. may_report later, λ both _. both)
 
   pub adds_report : (a : Attention) (l : Landing) (p : Possibilities) (calm left : BitSet) → IsLater a → slice_get q.tally.now.ways 1 ≡ Some p → AreCalm q.known calm → AreReported ATTENTION_SETS calm a left
       → IsLanding q.asked.tests.now (report (Plain q.asked.command) (code_of a)) l → IsAddedBy q (Reports a) (LandsOf q (Reports a)) l p left

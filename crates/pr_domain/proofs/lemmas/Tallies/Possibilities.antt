@@ -59,7 +59,7 @@ module _ (s : Scope) (known : Possibilities) (c : Command) (tests : List Test) (
           λ u j shown so pending. record {
             reply = report (Plain c) power_on;
             after = after_report u s.own power_on;
-            ends = (tt, (pending.1 power_on ∙ found.3.1, refl, refl));
+            ends = (λ later. absurd (later refl), (pending.1 power_on ∙ found.3.1, refl, refl));
             landing = landing;
             is = so_from_registered s (after_report u s.own power_on) j (still_registered s (after_report u s.own power_on) u j refl so);
             left = after_reported s u PowerOn found.0 n pending found.3;
