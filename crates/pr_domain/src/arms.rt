@@ -15,12 +15,12 @@ fn is_taken_by(class: Class, test: Test) -> bool
 {
     match test {
         Test::Good => class == Class::Good,
-        Test::GoodHas(_) | Test::GoodHeld(_) | Test::GoodUnheld => false,
         Test::Conflict => class == Class::Conflict,
         Test::Busy => class == Class::Busy,
         Test::Full => class == Class::Full,
         Test::Attention => sense_in(class).is_some_and(|sense| sense.key == UNIT_ATTENTION),
         Test::Sense(wanted) => sense_in(class) == Some(wanted),
+        _ => false,
     }
 }
 

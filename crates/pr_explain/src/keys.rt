@@ -17,28 +17,11 @@ pub(crate) fn is_keyless(command: &Command) -> bool {
 
 /// Whether the arm waits for this key.
 pub(crate) fn waits_for_key(test: Test, key: u64) -> bool {
-    match test {
-        Test::GoodHas(known) | Test::GoodHeld(known) => known == key,
-        Test::Good
-        | Test::GoodUnheld
-        | Test::Conflict
-        | Test::Busy
-        | Test::Full
-        | Test::Attention
-        | Test::Sense(_) => false,
-    }
+    matches!(test, Test::GoodHas(known) | Test::GoodHeld(known) if known == key)
 }
 
 fn permits_key(action: Action, key: u64) -> bool {
-    match action {
-        Action::Register(known) | Action::Preempt(known, _) => known == key,
-        Action::Unregister
-        | Action::Reserve(_)
-        | Action::Release
-        | Action::Clear
-        | Action::Read
-        | Action::Write => false,
-    }
+    matches!(action, Action::Register(known) | Action::Preempt(known, _) if known == key)
 }
 
 /// Whether the start, the role or the plan of the nexus names this key.

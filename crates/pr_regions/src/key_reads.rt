@@ -55,13 +55,7 @@ fn asked_by(test: Test, keys: &[u64], registration: u8) -> Ask
                 Ask::Somebody(number)
             }
         }
-        Test::GoodHeld(_)
-        | Test::GoodUnheld
-        | Test::Conflict
-        | Test::Busy
-        | Test::Full
-        | Test::Attention
-        | Test::Sense(_) => Ask::Never,
+        _ => Ask::Never,
     }
 }
 

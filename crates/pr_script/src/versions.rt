@@ -14,8 +14,7 @@ impl Test {
     {
         match self {
             Test::Busy | Test::Full => 2,
-            Test::Good | Test::GoodHas(_) | Test::GoodHeld(_) | Test::GoodUnheld => 1,
-            Test::Conflict | Test::Attention | Test::Sense(_) => 1,
+            _ => 1,
         }
     }
 }

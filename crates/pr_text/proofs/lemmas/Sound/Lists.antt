@@ -59,9 +59,7 @@ module _ (keys : List ℕ) where
   test_more : (c : Command) (t : Test) → test_fits [] c t ≡ true → test_fits keys c t ≡ true
   test_more c (test.GoodHas key) h = absurd (false≢true (and_parts (is_read_keys c) _ h).1)
   test_more c (test.GoodHeld key) h = let parts = and_parts (is_read_reservation c) _ h in and_from _ _ parts.0 (written_key key parts.1)
-  test_more c test.GoodUnheld h = h
-  test_more c (test.Sense sense) h = h
-  test_more c _ h = refl
+  test_more c _ h = h
 
   arm_more : (t : Test) (bs : List OpenBlock) → may_arm [] t bs ≡ true → may_arm keys t bs ≡ true
   arm_more t ((sending c arms) ∷ bs) h = let parts = and_parts (test_fits [] c t) _ h in and_from _ _ (test_more c t parts.0) parts.1
