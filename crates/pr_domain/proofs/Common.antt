@@ -13,10 +13,10 @@ pub use Rattle.pr_cdb.specs.declared.command.Command.{Command}
 pub use Rattle.pr_cdb.specs.declared.reply.Reply.{Reply}
 pub use Rattle.pr_cdb.specs.declared.reply.Sense.{Sense}
 pub use Rattle.pr_cdb.specs.declared.wire.Request.TheVariants.{Plain}
-pub use Rattle.pr_attention.specs.Attentions.{power_on, reservations_preempted, reservations_released, registrations_preempted, code_of}
+pub use Rattle.pr_attention.specs.Attentions.{power_on, code_of}
 unfoldable pub use Rattle.pr_attention.specs.Flagged.{codes_of}
 pub use Rattle.pr_attention.specs.declared.attention.Attention.{Attention}
-pub use Rattle.pr_attention.specs.declared.attention.Attention.TheVariants.{PowerOn, ReservationsPreempted, ReservationsReleased, RegistrationsPreempted}
+pub use Rattle.pr_attention.specs.declared.attention.Attention.TheVariants.{PowerOn}
 pub use Rattle.pr_registry.specs.Registrations.{State, key_of}
 pub use Rattle.pr_registry.specs.declared.held.Held.{Held}
 pub use Rattle.pr_registry.specs.declared.held.Held.TheVariants.{One}

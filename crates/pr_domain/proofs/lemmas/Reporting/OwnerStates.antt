@@ -1,5 +1,6 @@
 -- What is pending for the owner, and who is registered, after a command of the owner's.
-use Rattle.pr_domain.proofs.Common.{◌≡◌, ℕ, suc, ◌≤◌, Bool, true, false, not, ◌&&◌, ◌||◌, ◌⊎◌, List, [], ◌∷◌, length, if◌then◌else◌, ◌==◌, slice_get, Some, None, Option, sym, refl, ap, ◌∙◌, subst, inl, inr, arith, lit<, list_any, false≢true, and_parts, or_cases, nat_tests, slice_get_within, Command, power_on, reservations_preempted, reservations_released, registrations_preempted, code_of, codes_of, Attention, State, key_of, UnitState, is_pending, is_any_pending, effect, after_report, is_written_key, is_written, Scope, key_at, Attentions, IsSo, eq-eqb}
+use Rattle.pr_domain.proofs.Common.{◌≡◌, ℕ, suc, ◌≤◌, Bool, true, false, not, ◌&&◌, ◌||◌, ◌⊎◌, List, [], ◌∷◌, length, if◌then◌else◌, ◌==◌, slice_get, Some, None, Option, sym, refl, ap, ◌∙◌, subst, inl, inr, arith, lit<, list_any, false≢true, and_parts, or_cases, nat_tests, slice_get_within, Command, power_on, code_of, codes_of, Attention, State, key_of, UnitState, is_pending, is_any_pending, effect, after_report, is_written_key, is_written, Scope, key_at, Attentions, IsSo, eq-eqb}
+use Rattle.pr_attention.specs.Attentions.{reservations_preempted, reservations_released, registrations_preempted}
 use Rattle.std.specs.FinSet as set
 use Rattle.std.specs.FinMap as map
 use Rattle.std.proofs.lemmas.Bool.{false_from_ne_true}

@@ -1,5 +1,6 @@
 -- Sets of codes by their numbers: which are within another, and which one a test tells.
-use Rattle.pr_domain.proofs.Common.{◌≡◌, ℕ, ◌<◌, Bool, true, false, ◌&&◌, ◌||◌, ◌↔◌, if◌then◌else◌, IsTrue, ◌==◌, sym, refl, ◌∙◌, lit<, false≢true, has, BitSet, code_of, codes_of, Attention, PowerOn, ReservationsPreempted, ReservationsReleased, RegistrationsPreempted, ATTENTION_SETS}
+use Rattle.pr_domain.proofs.Common.{◌≡◌, ℕ, ◌<◌, Bool, true, false, ◌&&◌, ◌||◌, ◌↔◌, if◌then◌else◌, IsTrue, ◌==◌, sym, refl, ◌∙◌, lit<, false≢true, has, BitSet, code_of, codes_of, Attention, PowerOn, ATTENTION_SETS}
+use Rattle.pr_attention.specs.declared.attention.Attention.TheVariants.{ReservationsPreempted, ReservationsReleased, RegistrationsPreempted}
 use Rattle.std.proofs.Common.{arith, bit_or}
 use Rattle.std.specs.FinSet as set
 use Rattle.std.proofs.lemmas.Bool.{false_from_ne_true}

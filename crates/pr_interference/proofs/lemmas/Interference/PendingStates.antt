@@ -1,10 +1,11 @@
 -- States that differ in what is pending for one nexus alone: views of the others show them alike.
-use Rattle.pr_interference.proofs.Common.{◌≡◌, ℕ, true, false, not, ◌&&◌, ◌||◌, ◌≢◌, ◌==◌, sym, refl, ap, ◌∙◌, arith, nat_tests, Command, State, UnitState, effect, Registration, Reservation, Attentions, View, Shows, is_pending_after, contains-told, IsLike, so_like}
+use Rattle.pr_interference.proofs.Common.{◌≡◌, ℕ, true, false, not, ◌&&◌, ◌||◌, ◌≢◌, ◌==◌, sym, refl, ap, ◌∙◌, arith, nat_tests, Command, State, UnitState, effect, Registration, Reservation, Attentions, View, Shows, IsLike, so_like}
 use Rattle.std.specs.FinSet as set
 use Rattle.std.specs.List.{list_any}
 use Rattle.std.proofs.lemmas.Bool.{and_parts, eq-eqb, ne_eqb}
 use Rattle.std.proofs.Math.Bool.{and-false, and-true}
 use Rattle.pr_attention.specs.Attentions.{attentions}
+use Rattle.pr_unit.proofs.lemmas.Attentions.ToldAttentions.{told_alike}
 use Rattle.pr_unit.specs.UnitStates.{after, change, IsWellFormed, is_any_pending, pending_after}
 use Rattle.pr_unit.specs.Laws.{IsQuiet}
 use Rattle.pr_unit.proofs.lemmas.Attentions.Pairs.{contains-retain-pair}
@@ -35,9 +36,7 @@ like_effect own h c u w like = record {
   registry = ap (λ (r : State). after r h c) like.registry;
   pending = λ code.
       ap (λ (r : State). set.contains (pending_after w.pending (change r h c)) (own, code)) like.registry
-      ∙ contains-told w.pending (change u.registry h c) own code
-      ∙ ap (λ b. is_pending_after b (set.contains (change u.registry h c).told_03 own) (set.contains (change u.registry h c).told_04 own) (set.contains (change u.registry h c).told_05 own) code) (like.pending code)
-      ∙ sym (contains-told u.pending (change u.registry h c) own code);
+      ∙ told_alike u.pending w.pending (change u.registry h c) own code (like.pending code);
 }
 
 -- ---- nothing is pending for the sender

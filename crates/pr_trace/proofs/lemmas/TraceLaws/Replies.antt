@@ -20,7 +20,7 @@ use Rattle.pr_cdb.specs.Kinds.{code_of}
 use Rattle.pr_cdb.specs.Requests.{request_of, named_command, length_of, has_refused_flag, plain_request, illegal, AreBytes}
 use Rattle.pr_cdb.specs.ReplyData.{sense_bytes, keys_bytes, reservation_bytes, capabilities_bytes, cut}
 use Rattle.pr_attention.specs.declared.attention.Attention.{Attention}
-use Rattle.pr_attention.specs.declared.attention.Attention.TheVariants.{PowerOn, ReservationsPreempted, ReservationsReleased, RegistrationsPreempted}
+use Rattle.pr_attention.specs.declared.attention.Attention.TheVariants.{PowerOn}
 use Rattle.pr_attention.specs.Attentions.{power_on, attention_sense, is_attention, code_of as code_of_attention}
 use Rattle.pr_attention.proofs.lemmas.FourCodes.{which}
 use Rattle.pr_registry.specs.Registrations.{State, IsWellFormed}
@@ -121,9 +121,7 @@ attention_is code is = at (which code is)
   where
     at : (a : Attention) × (code ≡ code_of_attention a) → IsSense (attention_sense code)
     at (PowerOn, same) = record { key = omega arith; asc = omega (arith, same); ascq = omega (arith, same) }
-    at (ReservationsPreempted, same) = record { key = omega arith; asc = omega (arith, same); ascq = omega (arith, same) }
-    at (ReservationsReleased, same) = record { key = omega arith; asc = omega (arith, same); ascq = omega (arith, same) }
-    at (RegistrationsPreempted, same) = record { key = omega arith; asc = omega (arith, same); ascq = omega (arith, same) }
+    at (_, same) = record { key = omega arith; asc = omega (arith, same); ascq = omega (arith, same) }
 
 -- records, so that antt finds what they speak of
 abbrev pub SenseIfSome : Option Sense → Type 0

@@ -2,7 +2,7 @@
 use Rattle.pr_unit.proofs.Common.{◌≡◌, ℕ, false, not, ◌&&◌, ◌||◌, IsTrue, ◌==◌, sym, refl, ap, ◌∙◌, subst, false≢true, and_parts, Command, Request, Plain, Faulty, power_on, reservations_preempted, reservations_released, registrations_preempted, Pairs, each_with, decision, StepBy, UnitState, effect, after_report, Decision, PowerOn, Attention, Done, or-false}
 use Rattle.std.proofs.Common.{◌⊎◌, inl, inr, ne_eqb}
 use Rattle.std.specs.FinSet as set
-use Rattle.pr_cdb.specs.declared.command.Command.TheVariants.{RegisterIgnore, PreemptAbort, Register, Reserve, Release, Clear, Preempt}
+use Rattle.pr_cdb.specs.declared.command.Command.TheVariants.{TestUnitReady, RequestSense, Read, Write, ReadKeys, ReadReservation, ReportCapabilities}
 use Rattle.pr_registry.specs.Hosts.{nobody}
 use Rattle.pr_registry.specs.Changes.{no_change}
 use Rattle.pr_unit.specs.UnitStates.{pending_after}
@@ -36,16 +36,20 @@ reported-quiet u h code = record {
   own = λ x is. (and_parts (not (h == h && x == code)) (set.contains u.pending (h, x)) (sym (contains-remove-pair u.pending (h, code) (h, x)) ∙ is)).1;
 }
 
+-- nobody is told of anything
+unchanged : (u : UnitState) → record u { pending = pending_after u.pending no_change } ≡ u
+unchanged u = ap (λ (p : Pairs). record u { pending = p }) (told-no_change u.pending)
+
 -- the effect of a command that only looks
 effect-looking : (u : UnitState) (h : ℕ) (c : Command) → IsTrue (request_looks (Plain c)) → effect u h c ≡ u
-effect-looking u h (Register rk sark) looks = absurd (false≢true looks)
-effect-looking u h (RegisterIgnore sark) looks = absurd (false≢true looks)
-effect-looking u h (Reserve rk kind) looks = absurd (false≢true looks)
-effect-looking u h (Release rk kind) looks = absurd (false≢true looks)
-effect-looking u h (Clear rk) looks = absurd (false≢true looks)
-effect-looking u h (Preempt rk sark kind) looks = absurd (false≢true looks)
-effect-looking u h (PreemptAbort rk sark kind) looks = absurd (false≢true looks)
-effect-looking u h _ looks = ap (λ (p : Pairs). record u { pending = p }) (told-no_change u.pending)
+effect-looking u h TestUnitReady looks = unchanged u
+effect-looking u h RequestSense looks = unchanged u
+effect-looking u h (Read lba blocks) looks = unchanged u
+effect-looking u h (Write lba blocks) looks = unchanged u
+effect-looking u h (ReadKeys alloc) looks = unchanged u
+effect-looking u h (ReadReservation alloc) looks = unchanged u
+effect-looking u h (ReportCapabilities alloc) looks = unchanged u
+effect-looking u h _ looks = absurd (false≢true looks)
 
 pub quiet_steps : QuietSteps
 quiet_steps u h q r v step why = by_decision (decision u h q) step
