@@ -5,7 +5,7 @@ use crate::blocks::{depth_behind, end_of};
 use crate::fact::Fact;
 use crate::lint_words::{index_of, put_numbered};
 use crate::possible::put_possible;
-use crate::running::put_finding;
+use crate::running::{put_finding, table_of};
 use crate::senders::SentBy;
 use crate::source::{first_word, line_of};
 use pr_cdb::Command;
@@ -169,28 +169,14 @@ fn put_place<W: Write>(
 
 /// What the host can know at this line.
 pub(crate) fn view_at(tables: &[Table], host: u8, line: u32) -> Option<&View> {
-    for table in tables {
-        if table.outline.host == host {
-            for (at, view) in &table.outline.views {
-                if *at == line {
-                    return Some(view);
-                }
-            }
-        }
-    }
-    None
+    let views = &table_of(tables, usize::from(host))?.outline.views;
+    let place = views.iter().position(|(at, _)| *at == line)?;
+    views.get(place).map(|(_, view)| view)
 }
 
 /// What the host's command on this line comes to.
 pub(crate) fn row_at(tables: &[Table], host: u8, line: u32) -> Option<&Row> {
-    for table in tables {
-        if table.outline.host == host {
-            for (place, (at, _)) in table.outline.views.iter().enumerate() {
-                if *at == line {
-                    return table.rows.get(place);
-                }
-            }
-        }
-    }
-    None
+    let table = table_of(tables, usize::from(host))?;
+    let place = table.outline.views.iter().position(|(at, _)| *at == line)?;
+    table.rows.get(place)
 }

@@ -184,8 +184,8 @@ fn put_others<W: Write>(
     Ok(())
 }
 
-// The table of the nexus with this number, which a host has.
-fn table_of(tables: &[Table], number: usize) -> Option<&Table> {
+/// The table of the nexus with this number, which a host has.
+pub(crate) fn table_of(tables: &[Table], number: usize) -> Option<&Table> {
     tables
         .iter()
         .find(|table| usize::from(table.outline.host) == number)
