@@ -1,53 +1,36 @@
 -- What a clause leads to under one reservation, whatever its sender's standing.
 use Rattle.pr_interference.proofs.Common.{◌≡◌, ℕ, suc, ◌+◌, ◌<◌, ◌≤◌, Bool, true, false, ◌||◌, ◌⊎◌, List, [], ◌∷◌, length, if◌then◌else◌, ◌==◌, Some, None, Option, sym, refl, ap, ◌∙◌, subst, inl, inr, arith, false≢true, kind_of, Held, UnitState, is_declared, is_action, Action, Clause, view_in, Scope, Item, Registration, IsSo, Possibilities, one_registration, number_in, purpose_of_preempt, Place, Purpose, Adds, adds_both, same_reservation, Onlooker, purpose_for, StandingLeads, PlaceLeads, IsWatched, MOST_KEYS}
-use Rattle.pr_unit.specs.declared.demand.Demand.TheVariants.{Register, Unregister, Reserve, Release, Clear, PreemptAll, Preempt}
-use Rattle.std.proofs.Common.{cond}
-use Rattle.std.specs.List.{list_any, position_from}
-use Rattle.std.specs.Option.{option_map_or}
-use Rattle.std.proofs.lemmas.List.Quantifiers.{position-Some}
-use Rattle.std.proofs.lemmas.Iterator.Adapters.{position_from-zero}
+use Rattle.pr_unit.specs.declared.demand.Demand.TheVariants.{Register, PreemptAll, Preempt}
 use Rattle.pr_roles.specs.declared.role.Action.TheVariants as action
 use Rattle.pr_regions.specs.declared.purpose.Standing.{Standing}
 use Rattle.pr_regions.specs.declared.purpose.Standing.TheVariants.{Unregistered, Named, Other}
 use Rattle.pr_regions.specs.Purposes.{HasNumber}
 use Rattle.pr_regions.specs.Regions.{standing_of}
+use Rattle.pr_regions.proofs.lemmas.Purposes.Conduct.{number_named, declared_number}
 use Rattle.pr_interference.specs.inside.Clauses.{PurposeLeads}
 
 -- ---- the numbers of declared keys
 
-found_from : (p : ℕ → Bool) (n : ℕ) (xs : List ℕ) → list_any p xs ≡ true → (i : ℕ) × (position_from p n xs ≡ Some i)
-found_from p n [] is = absurd (false≢true is)
-found_from p n (x ∷ xs) is = at (p x) refl is (λ any. found_from p (n + 1) xs any)
-  where
-    at : (b : Bool) → p x ≡ b → (b || list_any p xs) ≡ true → (list_any p xs ≡ true → (i : ℕ) × (position_from p (n + 1) xs ≡ Some i)) → (i : ℕ) × (position_from p n (x ∷ xs) ≡ Some i)
-    at true passes any rest = (n, ap (λ b. cond b (Some n) (position_from p (n + 1) xs)) passes)
-    at false fails any rest = let found = rest any in (found.0, ap (λ b. cond b (Some n) (position_from p (n + 1) xs)) fails ∙ found.1)
-
-declared_number : (keys : List ℕ) (key : ℕ) → length keys ≤ MOST_KEYS → is_declared keys key ≡ true → (1 ≤ number_in keys key) × (number_in keys key ≤ MOST_KEYS)
-declared_number keys key few is =
-    let found = found_from (λ k. k == key) 0 keys is in
-    let at = position_from-zero (λ k. k == key) keys ∙ found.1 in
-    let small = (position-Some (λ k. k == key) keys found.0 0 at).0 in
-    let number : number_in keys key ≡ suc found.0 = ap (λ o. option_map_or suc o 0) at in
-    (omega arith, omega arith)
+declared : (keys : List ℕ) (key : ℕ) → length keys ≤ MOST_KEYS → is_declared keys key ≡ true → (1 ≤ number_in keys key) × (number_in keys key ≤ MOST_KEYS)
+declared keys key few is =
+    let some = declared_number keys key is in
+    let inside = (number_named keys key (number_in keys key) refl some).0 in
+    (some, omega arith)
 
 numbered : (p q : Purpose) → Some q ≡ Some p → HasNumber q → HasNumber p
 numbered p q same has = let e : q ≡ p = cc in subst HasNumber e has
 
 pub has_number : (keys : List ℕ) (a : Action) (held : Option Held) (p : Purpose) → length keys ≤ MOST_KEYS → is_action keys a ≡ true → purpose_for keys a held ≡ Some p → HasNumber p
-has_number keys (action.Register key) held p few fits meant = numbered p (Register (number_in keys key)) meant (declared_number keys key few fits)
-has_number keys action.Unregister held p few fits meant = numbered p Unregister meant tt
-has_number keys (action.Reserve kind) held p few fits meant = numbered p (Reserve kind) meant tt
+has_number keys (action.Register key) held p few fits meant = numbered p (Register (number_in keys key)) meant (declared keys key few fits)
 has_number keys action.Release None p few fits meant = let bad : None ≡ Some p = meant in cc
-has_number keys action.Release (Some v) p few fits meant = numbered p (Release (kind_of v)) meant tt
-has_number keys action.Clear held p few fits meant = numbered p Clear meant tt
 has_number keys (action.Preempt key kind) held p few fits meant = numbered p (purpose_of_preempt keys key kind) meant (at (key == 0) fits)
   where
     at : (b : Bool) → (b || is_declared keys key) ≡ true → HasNumber (if b then PreemptAll kind else Preempt (number_in keys key) kind)
     at true fits = tt
-    at false fits = declared_number keys key few fits
+    at false fits = declared keys key few fits
 has_number keys action.Read held p few fits meant = let bad : None ≡ Some p = meant in cc
 has_number keys action.Write held p few fits meant = let bad : None ≡ Some p = meant in cc
+has_number keys _ held p few fits meant = numbered p _ meant tt
 
 -- ---- the three standings
 
