@@ -8,7 +8,7 @@
 mod outline;
 mod verdict;
 
-pub use outline::write_outlines;
+pub use outline::{put_test, write_outlines};
 pub use pr_output::WriteFault;
 pub use pr_trace::{
     TraceError, held_word, number_of, read_trace, traces_of_runs_are_read, write_trace,

@@ -7,9 +7,7 @@ ghost use Rattle.pr_script.specs.Trees.{script_of, statement_of, statements_in};
 ghost use Rattle.pr_script.specs.inside.ArmLists.{arms_in};
 ghost use Rattle.pr_roles.specs.Scenarios.{scenario_of, task};
 ghost use Rattle.pr_roles.specs.Tasks.{IsScripted};
-ghost use Rattle.pr_output.specs.Printed.{printed_words};
 ghost use Rattle.pr_output.specs.Written.{Writes};
-ghost use Rattle.pr_report.specs.OutlineText.{indented_line};
 ghost use Rattle.pr_table.specs.Rows.{again_row, arm_rows, first_row, leave_row, repeat_row, row_count, row_count_of_all, row_count_of_arms, rows_of, rows_of_all, rows_of_arms, send_row, stop_row, table_rows};
 ghost use Rattle.pr_table.specs.TableText.{arm_line, host_line, host_table_text, row_text, rows_text, send_line, table_text, version_line};
 ghost use Rattle.pr_table.specs.declared.counts.TheConstants.{MOST_ROWS};
@@ -17,8 +15,9 @@ ghost use Rattle.pr_table.specs.declared.counts.TheConstants.{MOST_ROWS};
 use crate::counts::{row_count, row_count_of_all};
 use pr_cdb::{Command, encode};
 use pr_output::{Token, WriteFault, put, put_line, put_spaced};
+use pr_report::put_test;
 use pr_roles::{Scenario, Task, nexus_in};
-use pr_script::{Arm, Class, Script, Statement, Test};
+use pr_script::{Arm, Script, Statement, Test};
 use std::io::Write;
 
 /// Writes the table of a host's script: the scenario's version, and a row for each statement, with the command's bytes where that is a
@@ -243,35 +242,13 @@ fn first_row(at: u32, next: u32, statements: &[Statement]) -> u32
     if statements.is_empty() { next } else { at }
 }
 
-#[tactic(auto, unfolding(pr_output::specs::Printed::printed_word))]
+// What an arm asks, and the row that follows, behind two spaces.
 fn put_arm<W: Write>(writer: &mut W, test: Test, row: u32) -> Result<(), WriteFault>
     ensures { Writes W.Write writer (arm_line (test, row)) result }
 {
-    let good = Token::Class(Class::Good);
-    let row = Token::Number(u64::from(row));
-    match test {
-        Test::Good => put_indented(writer, &[good, row]),
-        Test::GoodHas(key) => {
-            put_indented(writer, &[good, Token::Text(b"has"), Token::Key(key), row])
-        }
-        Test::GoodHeld(key) => {
-            put_indented(writer, &[good, Token::Text(b"held"), Token::Key(key), row])
-        }
-        Test::GoodUnheld => put_indented(writer, &[good, Token::Text(b"unheld"), row]),
-        Test::Conflict => put_indented(writer, &[Token::Class(Class::Conflict), row]),
-        Test::Busy => put_indented(writer, &[Token::Class(Class::Busy), row]),
-        Test::Full => put_indented(writer, &[Token::Class(Class::Full), row]),
-        Test::Attention => put_indented(writer, &[Token::Text(b"attention"), row]),
-        Test::Sense(sense) => put_indented(writer, &[Token::Class(Class::Sense(sense)), row]),
-    }
-}
-
-// The line of these words behind two spaces.
-fn put_indented<W: Write>(writer: &mut W, words: &[Token<'_>]) -> Result<(), WriteFault>
-    ensures { Writes W.Write writer (indented_line (printed_words words.now)) result }
-{
     put(writer, b" ")?;
-    put_spaced(writer, words)?;
+    put_test(writer, test)?;
+    put_spaced(writer, &[Token::Number(u64::from(row))])?;
     put(writer, b"\n")
 }
 
