@@ -3,10 +3,11 @@ use Rattle.std.proofs.Common.{◌≡◌, ℕ, Bool, true, false, ◌==◌, ◌&&
 use Rattle.std.specs.FinSet as set
 use Rattle.std.proofs.lemmas.Bool.{false≢true}
 use Rattle.std.proofs.lemmas.Bool.Decides.{nat_tests}
+use Rattle.std.proofs.lemmas.List.Folds.{list_any_none}
 pub use Rattle.pr_sets.proofs.lemmas.Members.{same_numbers as same_codes, contains-empty as contains-no_code, contains-insert as contains-insert_code, contains-remove as contains-remove_code}
 use Rattle.pr_attention.specs.declared.attention.Attention.{Attention}
-use Rattle.pr_attention.specs.declared.attention.Attention.TheVariants.{PowerOn, ReservationsPreempted, ReservationsReleased, RegistrationsPreempted}
-use Rattle.pr_attention.specs.Attentions.{power_on, reservations_preempted, reservations_released, registrations_preempted, has_any, is_attention, code_of, Codes, no_code, AreAttentions}
+use Rattle.pr_attention.specs.declared.attention.Attention.TheVariants.{PowerOn}
+use Rattle.pr_attention.specs.Attentions.{attentions, has_any, is_attention, code_of, Codes, no_code, AreAttentions}
 
 -- what a set of codes contains after a change
 pub ruleset code_reads = (contains-no_code, contains-insert_code, contains-remove_code)
@@ -14,8 +15,10 @@ pub ruleset code_reads = (contains-no_code, contains-insert_code, contains-remov
 -- ---- whether any of the four codes is there
 
 pub any-no_code : has_any no_code ≡ false
-any-no_code =
-    rw (contains-no_code power_on, contains-no_code reservations_preempted, contains-no_code reservations_released, contains-no_code registrations_preempted) refl
+any-no_code = list_any_none (λ code. set.contains no_code code) attentions (λ i d there. none _)
+  where
+    none : (code : ℕ) → set.contains no_code code ≡ false
+    none code = contains-no_code code
 
 pub any-from_member : (s : Codes) (code : ℕ) → AreAttentions s → set.contains s code ≡ true → has_any s ≡ true
 any-from_member s code are there = let known = are code there in grind (arith, nat_tests)
@@ -37,9 +40,7 @@ any-decides s false are tells = at (has_any s) refl
 
 pub is_attention-code_of : (a : Attention) → IsTrue (is_attention (code_of a))
 is_attention-code_of PowerOn = refl
-is_attention-code_of ReservationsPreempted = refl
-is_attention-code_of ReservationsReleased = refl
-is_attention-code_of RegistrationsPreempted = refl
+is_attention-code_of _ = refl
 
 pub AreAttentions-no_code : AreAttentions no_code
 AreAttentions-no_code q there = let none = contains-no_code q in cc

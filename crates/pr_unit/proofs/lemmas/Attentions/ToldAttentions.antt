@@ -1,9 +1,11 @@
 -- What is pending for a nexus once it was told.
-use Rattle.pr_unit.proofs.Common.{◌≡◌, ℕ, Bool, ◌&&◌, ◌||◌, ◌==◌, sym, ap, ◌∙◌, reservations_preempted, reservations_released, registrations_preempted, Pairs, each_with}
+use Rattle.pr_unit.proofs.Common.{◌≡◌, ℕ, Bool, true, false, refl, ◌&&◌, ◌||◌, ◌==◌, sym, ap, ◌∙◌, reservations_preempted, reservations_released, registrations_preempted, Pairs, each_with}
 use Rattle.std.specs.FinSet as set
 use Rattle.pr_registry.specs.declared.change.Change.{Change}
+use Rattle.pr_registry.specs.Changes.{no_change}
+use Rattle.pr_registry.proofs.lemmas.Sets.{contains-nobody}
 use Rattle.pr_unit.specs.UnitStates.{pending_after}
-use Rattle.pr_unit.proofs.lemmas.Attentions.Pairs.{contains-union-pairs, contains-each_with}
+use Rattle.pr_unit.proofs.lemmas.Attentions.Pairs.{same_pairs, contains-union-pairs, contains-each_with}
 
 -- a code is pending: it was, or one of the three was told
 abbrev pub is_pending_after : Bool → Bool → Bool → Bool → ℕ → Bool
@@ -20,6 +22,27 @@ contains-told pending t h code =
     ∙ (λ i. (contains-union-pairs (set.union pending e3) e4 (h, code) ∙ (λ j. (contains-union-pairs pending e3 (h, code) ∙ ap (λ b. set.contains pending (h, code) || b) (contains-each_with t.told_03 reservations_preempted h code)) j
     || contains-each_with t.told_04 reservations_released h code j)) i
     || contains-each_with t.told_05 registrations_preempted h code i)
+
+-- the host is told of nothing
+pub record IsUntold (t : Change) (h : ℕ) : Type 0 where
+  pub untold_03 : set.contains t.told_03 h ≡ false
+  pub untold_04 : set.contains t.told_04 h ≡ false
+  pub untold_05 : set.contains t.told_05 h ≡ false
+
+nothing_more : (x : Bool) (code : ℕ) → is_pending_after x false false false code ≡ x
+nothing_more true code = refl
+nothing_more false code = refl
+
+-- then the same is pending for it
+pub contains-untold : (pending : Pairs) (t : Change) (h code : ℕ) → IsUntold t h → set.contains (pending_after pending t) (h, code) ≡ set.contains pending (h, code)
+contains-untold pending t h code none =
+    contains-told pending t h code
+    ∙ (λ i. is_pending_after (set.contains pending (h, code)) (none.untold_03 i) (none.untold_04 i) (none.untold_05 i) code)
+    ∙ nothing_more (set.contains pending (h, code)) code
+
+-- nobody is told
+pub told-no_change : (pending : Pairs) → pending_after pending no_change ≡ pending
+told-no_change pending = same_pairs _ _ (λ p. contains-untold pending no_change p.0 p.1 (record { untold_03 = contains-nobody p.0; untold_04 = contains-nobody p.0; untold_05 = contains-nobody p.0 }))
 
 -- what is alike before a change tells somebody is alike behind it
 pub told_alike : (from to : Pairs) (t : Change) (h code : ℕ) → set.contains to (h, code) ≡ set.contains from (h, code)

@@ -1,27 +1,14 @@
 -- What does not end GOOD, and what only looks, changes at most what is pending for the sender.
-use Rattle.pr_unit.proofs.Common.{◌≡◌, ℕ, false, not, ◌&&◌, ◌||◌, IsTrue, ◌==◌, sym, refl, ap, ◌∙◌, subst, false≢true, and_parts, Command, Request, Plain, Faulty, power_on, reservations_preempted, reservations_released, registrations_preempted, Pairs, each_with, decision, StepBy, UnitState, effect, after_report, Decision, PowerOn, Attention, Done, or-false}
+use Rattle.pr_unit.proofs.Common.{◌≡◌, ℕ, false, not, ◌&&◌, IsTrue, ◌==◌, sym, refl, ap, ◌∙◌, subst, false≢true, and_parts, Command, Request, Plain, Faulty, power_on, Pairs, decision, StepBy, UnitState, effect, after_report, Decision, PowerOn, Attention, Done}
 use Rattle.std.proofs.Common.{◌⊎◌, inl, inr, ne_eqb}
 use Rattle.std.specs.FinSet as set
 use Rattle.pr_cdb.specs.declared.command.Command.TheVariants.{TestUnitReady, RequestSense, Read, Write, ReadKeys, ReadReservation, ReportCapabilities}
-use Rattle.pr_registry.specs.Hosts.{nobody}
 use Rattle.pr_registry.specs.Changes.{no_change}
 use Rattle.pr_unit.specs.UnitStates.{pending_after}
 use Rattle.pr_unit.specs.Replies.{is_good}
 use Rattle.pr_unit.specs.Laws.{IsQuiet, request_looks, QuietSteps}
-use Rattle.pr_unit.proofs.lemmas.Attentions.Pairs.{same_pairs, contains-union-pairs, contains-each_with, contains-remove-pair}
-
--- nobody is told
-each_with-nobody : (code : ℕ) (pending : Pairs) → set.union pending (each_with nobody code) ≡ pending
-each_with-nobody code pending =
-    same_pairs _ _ (λ p. contains-union-pairs pending (each_with nobody code) p
-    ∙ ap (λ b. set.contains pending p || b) (contains-each_with nobody code p.0 p.1 ∙ ap (λ b. b && p.1 == code) (set.contains-empty _ p.0))
-    ∙ or-false (set.contains pending p))
-
-told-no_change : (pending : Pairs) → pending_after pending no_change ≡ pending
-told-no_change pending =
-    each_with-nobody registrations_preempted (set.union (set.union pending (each_with nobody reservations_preempted)) (each_with nobody reservations_released))
-    ∙ each_with-nobody reservations_released (set.union pending (each_with nobody reservations_preempted))
-    ∙ each_with-nobody reservations_preempted pending
+use Rattle.pr_unit.proofs.lemmas.Attentions.Pairs.{contains-remove-pair}
+use Rattle.pr_unit.proofs.lemmas.Attentions.ToldAttentions.{told-no_change}
 
 -- the same state is quiet
 same-quiet : (u : UnitState) (h : ℕ) → IsQuiet u h u

@@ -11,7 +11,7 @@ use Rattle.pr_registry.specs.Registrations.{others, is_holder, kind_of}
 use Rattle.pr_registry.specs.Changes.{no_change, is_held_as, is_kind, is_released, is_told_of_loss}
 use Rattle.pr_registry.proofs.lemmas.Kinds.{same_kind}
 use Rattle.pr_registry.proofs.lemmas.Sets.{contains-nobody}
-use Rattle.pr_unit.proofs.lemmas.Attentions.ToldAttentions.{is_pending_after, contains-told}
+use Rattle.pr_unit.proofs.lemmas.Attentions.ToldAttentions.{contains-untold}
 use Rattle.pr_unit.proofs.lemmas.UnitStates.AlikeStates.{IsLike}
 
 abbrev pub HasNoEffect : UnitState → ℕ → Command → Type 0
@@ -20,10 +20,6 @@ HasNoEffect u h c = (own : ℕ) → IsLike own u (effect u h c)
 no_told : (told : Hosts) (b : Bool) → b ≡ false → (q : ℕ) → set.contains (if b then told else nobody) q ≡ false
 no_told told b is q = ap (λ x. set.contains (if x then told else nobody) q) is ∙ contains-nobody q
 
-no_more : (b : Bool) (code : ℕ) → is_pending_after b false false false code ≡ b
-no_more true code = refl
-no_more false code = refl
-
 -- a RELEASE that releases nothing
 unreleased : (u : UnitState) (h rk : ℕ) (kind : Kind) → is_released u.registry h kind ≡ false → HasNoEffect u h (command.Release rk kind)
 unreleased u h rk kind none own = record {
@@ -31,10 +27,8 @@ unreleased u h rk kind none own = record {
   pending = λ code.
       let tells : Hosts = if is_released u.registry h kind && is_told_of_loss u.registry.held then others u.registry h else nobody in
       let quiet : (is_released u.registry h kind && is_told_of_loss u.registry.held) ≡ false = ap (λ b. b && is_told_of_loss u.registry.held) none in
-      contains-told u.pending (record no_change { told_04 = tells }) own code
-      ∙ ap (λ b. is_pending_after (set.contains u.pending (own, code)) b (set.contains tells own) b code) (contains-nobody own)
-      ∙ ap (λ b. is_pending_after (set.contains u.pending (own, code)) false b false code) (no_told (others u.registry h) _ quiet own)
-      ∙ no_more (set.contains u.pending (own, code)) code;
+      contains-untold u.pending (record no_change { told_04 = tells }) own code
+      (record { untold_03 = contains-nobody own; untold_04 = no_told (others u.registry h) _ quiet own; untold_05 = contains-nobody own });
 }
 
 -- a RELEASE is of the reservation that is held, or releases nothing
