@@ -44,17 +44,17 @@ module _ (keys : List ℕ) where
       and_from _ _ (written_key j parts.0) (and_from _ _ (written_key k rest.0) rest.1)
 
   written_more : (c : Command) → is_written [] c ≡ true → is_written keys c ≡ true
+  written_more command.TestUnitReady h = refl
+  written_more command.RequestSense h = refl
+  written_more (command.Read lba blocks) h = refl
+  written_more (command.Write lba blocks) h = refl
   written_more (command.ReadKeys alloc) h = h
   written_more (command.ReadReservation alloc) h = h
   written_more (command.ReportCapabilities alloc) h = h
   written_more (command.Register rk sark) h = two_keys rk sark h
-  written_more (command.RegisterIgnore sark) h = written_key sark h
-  written_more (command.Reserve rk kind) h = written_key rk h
-  written_more (command.Release rk kind) h = written_key rk h
-  written_more (command.Clear rk) h = written_key rk h
   written_more (command.Preempt rk sark kind) h = preempt_keys rk sark (is_some kind) h
   written_more (command.PreemptAbort rk sark kind) h = preempt_keys rk sark (is_some kind) h
-  written_more _ h = refl
+  written_more _ h = written_key _ h
 
   test_more : (c : Command) (t : Test) → test_fits [] c t ≡ true → test_fits keys c t ≡ true
   test_more c (test.GoodHas key) h = absurd (false≢true (and_parts (is_read_keys c) _ h).1)

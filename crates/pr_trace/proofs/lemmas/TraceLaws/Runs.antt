@@ -1,13 +1,13 @@
 -- The trace of a run is read back.
 use Rattle.pr_trace.proofs.Common.{◌≡◌, ℕ, zero, suc, ◌+◌, ◌<◌, ◌≤◌, true, false, List, [], ◌∷◌, ◌++◌, map, length, drop, codes, nat_le, ◌==◌, Some, None, Ok, Err, Option, sym, refl, ap, ◌∙◌, subst, inl, inr, arith, nat_tests, Item, names_in, MOST_CDB_LENGTH, MOST_NEXUSES, PARAMETER_LIST_LENGTH}
-use Rattle.std.specs.Prelude.{◌^◌, ◌⊎◌, ◌≢◌, not, IsTrue, slice_set}
+use Rattle.std.specs.Prelude.{◌^◌, ◌⊎◌, ◌≢◌, ◌&&◌, Bool, not, IsTrue, is_some, slice_set}
 use Rattle.std.specs.List.{All, slice_get}
 use Rattle.std.specs.Option.{option_map_or}
 use Rattle.std.proofs.lemmas.Bool.{and_parts, false≢true, or_cases}
 use Rattle.std.proofs.lemmas.Bool.Decides.{eqb_tells}
 use Rattle.std.proofs.lemmas.Option.{none-some, same_Some}
 use Rattle.pr_cdb.specs.declared.command.Command.{Command}
-use Rattle.pr_cdb.specs.declared.command.Command.TheVariants.{TestUnitReady, RequestSense, Read, Write, ReadKeys, ReadReservation, ReportCapabilities, Register, RegisterIgnore, Reserve, Release, Clear, Preempt, PreemptAbort}
+use Rattle.pr_cdb.specs.declared.command.Command.TheVariants.{TestUnitReady, RequestSense, Read, Write, ReadKeys, ReadReservation, ReportCapabilities, Register, Preempt, PreemptAbort}
 use Rattle.pr_cdb.specs.declared.reply.Reply.{Reply}
 use Rattle.pr_cdb.specs.declared.wire.Wire.{Wire}
 use Rattle.pr_cdb.specs.declared.wire.Request.{Request}
@@ -94,6 +94,11 @@ written_key keys k each is = at (or_cases (k == 0) (is_declared keys k) is)
     at (inl none) = grind (arith, nat_tests, none)
     at (inr declared) = (declared_key keys k each declared).1
 
+preempt_keys : (keys : List ℕ) (j k : ℕ) (b : Bool) → All IsKey keys → (is_written_key keys j && (is_written_key keys k && b)) ≡ true → (j < 2 ^ 64) × (k < 2 ^ 64)
+preempt_keys keys j k b each is =
+    let parts = and_parts (is_written_key keys j) _ is in
+    (written_key keys j each parts.0, written_key keys k each (and_parts (is_written_key keys k) b parts.1).0)
+
 -- what only looks leaves the unit well formed, whatever its fields are
 looked : (u : UnitState) (h : ℕ) (q : Request) (r : Reply) (v : UnitState) → IsWellFormed u → request_looks q ≡ true → Step u h q r v → IsWellFormed v
 looked u h q r v formed looks step = record {
@@ -111,29 +116,28 @@ looked u h q r v formed looks step = record {
     at g code (inl same) is = formed.pending g code (subst (λ x. is_pending u x code ≡ true) (sym same.1) (quiet.own code (subst (λ x. is_pending v x code ≡ true) same.1 is)))
     at g code (inr other) is = formed.pending g code (sym (quiet.others g code other.1) ∙ is)
 
--- a command that a text can write leaves it well formed
+-- a command that a text can write only looks, or has its fields in range
+looks_or_fits : (keys : List ℕ) (c : Command) → All IsKey keys → is_written keys c ≡ true → (request_looks (Plain c) ≡ true) ⊎ FitsWhereRead (Ok (Plain c))
+looks_or_fits keys TestUnitReady each is = inl refl
+looks_or_fits keys RequestSense each is = inl refl
+looks_or_fits keys (Read lba blocks) each is = inl refl
+looks_or_fits keys (Write lba blocks) each is = inl refl
+looks_or_fits keys (ReadKeys alloc) each is = inl refl
+looks_or_fits keys (ReadReservation alloc) each is = inl refl
+looks_or_fits keys (ReportCapabilities alloc) each is = inl refl
+looks_or_fits keys (Register rk sark) each is = let parts = and_parts (is_written_key keys rk) _ is in inr (written_key keys rk each parts.0, written_key keys sark each parts.1)
+looks_or_fits keys (Preempt rk sark kind) each is = inr (preempt_keys keys rk sark (is_some kind) each is)
+looks_or_fits keys (PreemptAbort rk sark kind) each is = inr (preempt_keys keys rk sark (is_some kind) each is)
+looks_or_fits keys _ each is = inr (written_key keys _ each is)
+
+-- so it leaves the unit well formed
 command_formed : (keys : List ℕ) (u : UnitState) (h : ℕ) (c : Command) (r : Reply) (v : UnitState) → All IsKey keys → IsWellFormed u → h < u.registry.hosts → is_written keys c ≡ true → Step u h (Plain c) r v
     → IsWellFormed v
-command_formed keys u h TestUnitReady r v each formed here is step = looked u h (Plain TestUnitReady) r v formed refl step
-command_formed keys u h RequestSense r v each formed here is step = looked u h (Plain RequestSense) r v formed refl step
-command_formed keys u h (Read lba blocks) r v each formed here is step = looked u h (Plain (Read lba blocks)) r v formed refl step
-command_formed keys u h (Write lba blocks) r v each formed here is step = looked u h (Plain (Write lba blocks)) r v formed refl step
-command_formed keys u h (ReadKeys alloc) r v each formed here is step = looked u h (Plain (ReadKeys alloc)) r v formed refl step
-command_formed keys u h (ReadReservation alloc) r v each formed here is step = looked u h (Plain (ReadReservation alloc)) r v formed refl step
-command_formed keys u h (ReportCapabilities alloc) r v each formed here is step = looked u h (Plain (ReportCapabilities alloc)) r v formed refl step
-command_formed keys u h (Register rk sark) r v each formed here is step =
-    let parts = and_parts (is_written_key keys rk) (is_written_key keys sark) is in
-    well_formed-step u h (Plain (Register rk sark)) r v formed here (written_key keys rk each parts.0, written_key keys sark each parts.1) step
-command_formed keys u h (RegisterIgnore sark) r v each formed here is step = well_formed-step u h (Plain (RegisterIgnore sark)) r v formed here (written_key keys sark each is) step
-command_formed keys u h (Reserve rk kind) r v each formed here is step = well_formed-step u h (Plain (Reserve rk kind)) r v formed here (written_key keys rk each is) step
-command_formed keys u h (Release rk kind) r v each formed here is step = well_formed-step u h (Plain (Release rk kind)) r v formed here (written_key keys rk each is) step
-command_formed keys u h (Clear rk) r v each formed here is step = well_formed-step u h (Plain (Clear rk)) r v formed here (written_key keys rk each is) step
-command_formed keys u h (Preempt rk sark kind) r v each formed here is step =
-    let parts = and_parts (is_written_key keys rk) _ is in
-    well_formed-step u h (Plain (Preempt rk sark kind)) r v formed here (written_key keys rk each parts.0, written_key keys sark each (and_parts (is_written_key keys sark) _ parts.1).0) step
-command_formed keys u h (PreemptAbort rk sark kind) r v each formed here is step =
-    let parts = and_parts (is_written_key keys rk) _ is in
-    well_formed-step u h (Plain (PreemptAbort rk sark kind)) r v formed here (written_key keys rk each parts.0, written_key keys sark each (and_parts (is_written_key keys sark) _ parts.1).0) step
+command_formed keys u h c r v each formed here is step = at (looks_or_fits keys c each is)
+  where
+    at : (request_looks (Plain c) ≡ true) ⊎ FitsWhereRead (Ok (Plain c)) → IsWellFormed v
+    at (inl looks) = looked u h (Plain c) r v formed looks step
+    at (inr fits) = well_formed-step u h (Plain c) r v formed here fits step
 
 -- ---- what is kept
 
