@@ -32,8 +32,8 @@ pub use Rattle.pr_regions.specs.declared.purpose.Standing.{Standing}
 pub use Rattle.pr_regions.specs.declared.region.Branch.{Branch}
 pub use Rattle.pr_regions.specs.declared.region.Transition.{Transition}
 pub use Rattle.pr_regions.specs.declared.region.Ending.TheVariants.{Conflict, Fault, Good}
-pub use Rattle.pr_regions.specs.Transitions.{Does, never}
-pub use Rattle.pr_regions.specs.inside.Parts.{AlwaysEnds, is_unregistered, holds, any, only, is_of_registrant, told_if, but, another, told_but, lost_if, is_named, Leaves, EndsIn, Tell}
+pub use Rattle.pr_regions.specs.Transitions.{Does, never, Audience, tells_nobody}
+pub use Rattle.pr_regions.specs.inside.Parts.{AlwaysEnds, is_unregistered, holds, any, only, is_of_registrant, told_if, but, another, told_but, tells_of_loss, tells_of_removal, tells_of_replacement, lost_if, is_named, Leaves, EndsIn, Tell}
 pub use Rattle.pr_regions.specs.inside.Reads.{IsKnown, answer}
 pub use Rattle.pr_roles.specs.declared.limits.TheConstants.{MOST_KEYS}
 pub use Rattle.pr_views.specs.declared.view.TheConstants.{ATTENTION_SETS}

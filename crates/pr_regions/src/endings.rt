@@ -6,8 +6,8 @@ ghost use Rattle.pr_registry.specs.Registrations.{is_for_registrants, new_reserv
 ghost use Rattle.pr_views.specs.Possibilities.{number_of};
 ghost use Rattle.pr_regions.specs.Purposes.{HasNumber};
 ghost use Rattle.pr_regions.specs.Regions.{HasRoom};
-ghost use Rattle.pr_regions.specs.Transitions.{Does, never};
-ghost use Rattle.pr_regions.specs.inside.Parts.{AlwaysEnds, EndsFor, told_if, holds, keeps_from_reading, keeps_from_writing, is_kept_from};
+ghost use Rattle.pr_regions.specs.Transitions.{Does, never, tells_nobody};
+ghost use Rattle.pr_regions.specs.inside.Parts.{AlwaysEnds, EndsFor, told_if, tells_of_loss, holds, keeps_from_reading, keeps_from_writing, is_kept_from};
 
 use crate::conditions::is_holder_as;
 use crate::initiator::Initiator;
@@ -33,7 +33,7 @@ fn holds(held: Held, sender: u8, standing: Standing) -> bool
 
 /// A change that leaves every registration as it is, tells nobody, and leaves the reservation of this number.
 pub fn change_to_reservation(reservation: u8) -> Transition
-    ensures { Does result None never reservation never never never }
+    ensures { Does result None never reservation tells_nobody }
 {
     let none = BitSet::none();
     Transition {
@@ -49,7 +49,7 @@ pub fn change_to_reservation(reservation: u8) -> Transition
 // A change to the reservation of this type that the sender comes to hold.
 pub(crate) fn new_change(sender: Initiator, kind: Kind) -> Transition
     ensures change { Does result None never
-        (number_of sender.hosts (Some (new_reservation kind sender.number))) never never never }
+        (number_of sender.hosts (Some (new_reservation kind sender.number))) tells_nobody }
     ensures room { HasRoom sender.hosts (Ending.Good result) }
 {
     let held = new_reservation(kind, sender.number);
@@ -58,8 +58,7 @@ pub(crate) fn new_change(sender: Initiator, kind: Kind) -> Transition
 
 // No change.
 pub(crate) fn no_change(sender: Initiator) -> Transition
-    ensures change { Does result None never (number_of sender.hosts sender.held) never never
-        never }
+    ensures change { Does result None never (number_of sender.hosts sender.held) tells_nobody }
     ensures room { HasRoom sender.hosts (Ending.Good result) }
 {
     change_to_reservation(reservation_number(sender.hosts, sender.held))
@@ -148,7 +147,7 @@ pub(crate) fn reserve_ending(sender: Initiator, kind: Kind) -> Ending
 // What ending a reservation of this type changes: registrants who lose their access are told.
 #[tactic(auto, using(crate::proofs::lemmas::Parts::Keys::keys_those))]
 pub(crate) fn release_change(kind: Kind) -> Transition
-    ensures { Does result None never 0 never (told_if (is_for_registrants kind)) never }
+    ensures { Does result None never 0 (tells_of_loss (told_if (is_for_registrants kind))) }
 {
     let mut change = change_to_reservation(0);
     if is_for_registrants(kind) {

@@ -6,8 +6,8 @@ ghost use Rattle.pr_registry.specs.Changes.{is_kind, is_held_by_all};
 ghost use Rattle.pr_roles.specs.declared.limits.TheConstants.{MOST_KEYS};
 ghost use Rattle.pr_views.specs.Possibilities.{number_of};
 ghost use Rattle.pr_regions.specs.Regions.{HasRoom};
-ghost use Rattle.pr_regions.specs.Transitions.{Does, never};
-ghost use Rattle.pr_regions.specs.inside.Parts.{TellPreempted, only, is_named, told_but, lost_if, IsNotAnothers};
+ghost use Rattle.pr_regions.specs.Transitions.{Does};
+ghost use Rattle.pr_regions.specs.inside.Parts.{TellPreempted, only, is_named, told_but, tells_of_removal, tells_of_replacement, lost_if, IsNotAnothers};
 
 use crate::branching::{ending_everywhere, three, two};
 use crate::endings::{change_to_reservation, new_change};
@@ -23,8 +23,9 @@ use pr_views::reservation_number;
 // What changes where the key is the single holder's, which holds by this type: the reservation is replaced.
 fn replacement_change(asked: Preemption, old: Kind) -> Transition
     ensures change { Does result None (only asked.key)
-        (number_of asked.sender.hosts (Some (new_reservation asked.kind asked.sender.number))) never
-        (told_but (not (is_kind old asked.kind)) asked.key) (only asked.key) }
+        (number_of asked.sender.hosts (Some (new_reservation asked.kind asked.sender.number)))
+        (tells_of_replacement (told_but (not (is_kind old asked.kind)) asked.key)
+        (only asked.key)) }
     ensures room { HasRoom asked.sender.hosts (Ending.Good result) }
 {
     let mut change = Transition {
@@ -41,7 +42,7 @@ fn replacement_change(asked: Preemption, old: Kind) -> Transition
 // What changes where the key is another's: those with the key go, the sender among them if it is its own.
 fn removal_change(key: u8, is_own: bool, reservation: u8) -> Transition
     requires { key ≤ MOST_KEYS }
-    ensures { Does result (lost_if is_own) (only key) reservation never never (only key) }
+    ensures { Does result (lost_if is_own) (only key) reservation (tells_of_removal (only key)) }
 {
     let mut change = Transition {
         removed: BitSet::only(key),

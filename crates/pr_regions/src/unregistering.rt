@@ -6,7 +6,7 @@ ghost use Rattle.pr_registry.specs.Changes.{is_held_by_all, is_told_of_loss};
 ghost use Rattle.pr_views.specs.Possibilities.{number_of};
 ghost use Rattle.pr_regions.specs.Regions.{HasRoom};
 ghost use Rattle.pr_regions.specs.Transitions.{Does, never};
-ghost use Rattle.pr_regions.specs.inside.Parts.{TellFor, told_if, is_unregistered};
+ghost use Rattle.pr_regions.specs.inside.Parts.{TellFor, told_if, tells_of_loss, is_unregistered};
 
 use crate::branching::{ending_everywhere, two};
 use crate::endings::{change_to_reservation, no_change, release_change};
@@ -21,9 +21,10 @@ use pr_unit::Demand;
 // What unregistering changes where not all registrants hold: a single holder's reservation ends.
 fn unregister_change(sender: Initiator) -> Transition
     ensures change { Does result (Some 0) never
-        (number_of sender.hosts (if holds_alone sender.held sender.number then None
-        else sender.held)) never
-        (told_if (holds_alone sender.held sender.number && is_told_of_loss sender.held)) never }
+        (number_of sender.hosts (if holds_alone sender.held
+        sender.number then None else sender.held))
+        (tells_of_loss (told_if (holds_alone sender.held sender.number
+        && is_told_of_loss sender.held))) }
     ensures room { HasRoom sender.hosts (Ending.Good result) }
 {
     let left = match sender.held {

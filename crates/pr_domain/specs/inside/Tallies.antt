@@ -24,7 +24,7 @@ use Rattle.pr_regions.specs.declared.region.Reading.{Reading}
 use Rattle.pr_regions.specs.declared.region.Region.{Region}
 use Rattle.pr_regions.specs.declared.region.Transition.{Transition}
 use Rattle.pr_regions.specs.declared.region.Ending.TheVariants as ending
-use Rattle.pr_regions.specs.Transitions.{Does, never}
+use Rattle.pr_regions.specs.Transitions.{Does, never, tells_nobody}
 use Rattle.pr_registry.specs.Registrations.{State}
 use Rattle.pr_script.specs.declared.limits.TheConstants.{MOST_ARMS}
 use Rattle.pr_regions.specs.Purposes.{Purpose, purpose_of}
@@ -203,7 +203,7 @@ pub record IsRightReading (s : Scope) (c : Command) (tests : List Test) (view : 
   pub few : length tests ≤ MOST_ARMS
   pub reads : (is_read_keys c || is_read_reservation c) ≡ true
   pub proper : IsUntestedOrRegistered b.region.somebody
-  pub looks : (change : Transition) → Does change None never place.reservation never never never → (u : UnitState) → Shows (view_in s view) u → HasBoth s place r u
+  pub looks : (change : Transition) → Does change None never place.reservation tells_nobody → (u : UnitState) → Shows (view_in s view) u → HasBoth s place r u
       → Ends s s.own (ending.Good change) u c
   pub taken : (u : UnitState) → Shows (view_in s view) u → IsReadAt s view place r b u → first_test tests (good (data_of u.registry c)) ≡ b.arm
 

@@ -20,7 +20,7 @@ use Rattle.pr_regions.specs.declared.purpose.Standing.TheVariants.{Unregistered,
 use Rattle.pr_regions.specs.declared.initiator.Initiator.{Initiator}
 use Rattle.pr_regions.specs.declared.initiator.Preemption.{Preemption}
 use Rattle.pr_regions.specs.Conditions.{is_holder_as}
-use Rattle.pr_regions.specs.Transitions.{HasThose}
+use Rattle.pr_regions.specs.Transitions.{HasThose, never, Audience, audience}
 use Rattle.pr_regions.specs.Regions.{Meets, IsInRegion, Ends, AreBranches, IsProper, HasRoom}
 
 -- ---- words
@@ -54,6 +54,22 @@ free_or j r = r == j || r == 0
 -- those who are told that the reservation was released, if it is replaced by one of another type
 abbrev pub told_but : Bool → ℕ → ℕ → Bool
 told_but b j r = b && another j r
+
+-- whoever ends all registrations tells these that reservations were preempted
+abbrev pub tells_of_ending : (ℕ → Bool) → Audience
+tells_of_ending those = audience those never never
+
+-- whoever loses one tells these that it was released
+abbrev pub tells_of_loss : (ℕ → Bool) → Audience
+tells_of_loss those = audience never those never
+
+-- whoever removes registrations tells these that theirs was preempted
+abbrev pub tells_of_removal : (ℕ → Bool) → Audience
+tells_of_removal those = audience never never those
+
+-- so does whoever replaces a reservation, and tells the rest that the old one was released
+abbrev pub tells_of_replacement : (ℕ → Bool) → (ℕ → Bool) → Audience
+tells_of_replacement rest those = audience never rest those
 
 -- the sender's registration once its key is removed, if it has that key
 abbrev pub lost_if : Bool → Option ℕ

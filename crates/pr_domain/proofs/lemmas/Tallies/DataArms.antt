@@ -10,7 +10,7 @@ use Rattle.pr_script.specs.Grammar.{is_read_keys, is_read_reservation, is_declar
 use Rattle.pr_script.specs.declared.landing.Class.TheVariants as class
 use Rattle.pr_unit.specs.declared.demand.Demand.TheVariants.{Look}
 use Rattle.pr_regions.specs.declared.region.Ending.TheVariants as ending
-use Rattle.pr_regions.specs.Transitions.{Does, never}
+use Rattle.pr_regions.specs.Transitions.{Does, never, tells_nobody}
 use Rattle.pr_regions.specs.Readings.{AreReadings, IsProperReading}
 use Rattle.pr_regions.specs.Regions.{Ends, Meets, IsInRegion}
 use Rattle.pr_regions.proofs.lemmas.Parts.Endings.{same_ends}
@@ -32,7 +32,7 @@ arm_way tests u c (Some n) way few some none is =
 
 pub reading_right : (s : Scope) (c : Command) (tests : List Test) (view : Possibilities) (place : Place) (r : ℕ) (w : BitSet) (b : Reading) (branch : Branch) (change : Transition) (way : ℕ)
     → IsRightReading s c tests view place r b → ((m : ℕ) → has w m ≡ (m == r)) → branch.region ≡ b.region → branch.ending ≡ ending.Good change
-    → Does change None never place.reservation never never never
+    → Does change None never place.reservation tells_nobody
     → (IfSome b.arm (λ n. n < MOST_ARMS) → way ≡ way_of b.arm) → IfNone b.arm (way ≡ 0) → IsRight s c tests view place w branch way
 reading_right s c tests view place r w b branch change way right only region ends does some none = record {
   own = right.own;
@@ -63,10 +63,10 @@ at_read s view place r w b u is only shown read = record {
 
 -- a command whose purpose is to look, and whose key is accepted
 ends_so : (s : Scope) (view : Possibilities) (place : Place) (r : ℕ) (c : Command) → purpose_of s.keys c ≡ Some Look → ((k : Option ℕ) → is_refused k c ≡ false) → place.sender ≡ s.own → IsPlace s view place
-    → (change : Transition) → Does change None never place.reservation never never never → (u : UnitState) → Shows (view_in s view) u → HasBoth s place r u → Ends s s.own (ending.Good change) u c
+    → (change : Transition) → Does change None never place.reservation tells_nobody → (u : UnitState) → Shows (view_in s view) u → HasBoth s place r u → Ends s s.own (ending.Good change) u c
 ends_so s view place r c asks accepted own is change does u shown both =
     subst (λ n. Ends s n (ending.Good change) u c) own
-    (same_ends s Look place.held place.sender (standing_of Look r) u c s.hosts change tt meets refl refl refl refl refl (subst (λ x. Does change None never x never never never) (number_at s view place is) does))
+    (same_ends s Look place.held place.sender (standing_of Look r) u c s.hosts change tt meets refl refl refl refl refl (subst (λ x. Does change None never x tells_nobody) (number_at s view place is) does))
   where
     meets : Meets s Look place.held place.sender (standing_of Look r) u c
     meets = record {
@@ -83,7 +83,7 @@ ends_so s view place r c asks accepted own is change does u shown both =
 
 -- such a command only looks
 look_ends : (s : Scope) (view : Possibilities) (place : Place) (r : ℕ) (c : Command) → (is_read_keys c || is_read_reservation c) ≡ true → place.sender ≡ s.own → IsPlace s view place
-    → (change : Transition) → Does change None never place.reservation never never never → (u : UnitState) → Shows (view_in s view) u → HasBoth s place r u → Ends s s.own (ending.Good change) u c
+    → (change : Transition) → Does change None never place.reservation tells_nobody → (u : UnitState) → Shows (view_in s view) u → HasBoth s place r u → Ends s s.own (ending.Good change) u c
 look_ends s view place r (command.ReadKeys alloc) reads own is change does u shown both = ends_so s view place r (command.ReadKeys alloc) refl (λ k. refl) own is change does u shown both
 look_ends s view place r (command.ReadReservation alloc) reads own is change does u shown both = ends_so s view place r (command.ReadReservation alloc) refl (λ k. refl) own is change does u shown both
 look_ends s view place r _ reads own is change does u shown both = absurd (false≢true reads)

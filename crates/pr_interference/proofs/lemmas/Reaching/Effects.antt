@@ -15,8 +15,8 @@ use Rattle.pr_registry.specs.Effects.{with_registration as register, held_by_res
 use Rattle.pr_registry.proofs.lemmas.Sets.{get-without, contains-hosts_with, key_is, not_empty_from_some}
 use Rattle.pr_roles.specs.Keys.{key_at}
 use Rattle.pr_views.proofs.lemmas.Possibilities.Numbers.{same_registration}
-use Rattle.pr_regions.specs.Transitions.{never}
-use Rattle.pr_regions.specs.inside.Parts.{is_of_registrant, told_if, told_but, lost_if}
+use Rattle.pr_regions.specs.Transitions.{never, Audience, tells_nobody}
+use Rattle.pr_regions.specs.inside.Parts.{is_of_registrant, told_if, told_but, tells_of_ending, tells_of_loss, tells_of_removal, tells_of_replacement, lost_if}
 use Rattle.pr_regions.proofs.lemmas.Showing.Numbers.{AreDistinct}
 use Rattle.pr_regions.proofs.lemmas.Purposes.Conduct.{after_for, change_for}
 use Rattle.pr_regions.proofs.lemmas.Regions.ChangedStates.{Is, then_in}
@@ -36,11 +36,11 @@ Tells reach r false false true = has reach.told_05 r ≡ true
 Tells reach r _ _ _ = ⊥
 
 -- what a registry becomes is in reach
-pub record IsInReach (hosts : ℕ) (reach : Reach) (u : State) (to : Option ℕ) (out : ℕ → Bool) (left : ℕ) (t3 t4 t5 : ℕ → Bool) : Type 0 where
+pub record IsInReach (hosts : ℕ) (reach : Reach) (u : State) (to : Option ℕ) (out : ℕ → Bool) (left : ℕ) (tells : Audience) : Type 0 where
   pub given : (j : ℕ) → to ≡ Some j → has reach.given j ≡ true
   pub removed : (r : ℕ) → r ≤ MOST_KEYS → out r ≡ true → has reach.removed r ≡ true
   pub reservation : (left ≡ number_of hosts u.held) ⊎ (has_wide reach.reservations left ≡ true)
-  pub told : (r : ℕ) → r ≤ MOST_KEYS → Tells reach r (t3 r) (t4 r) (t5 r)
+  pub told : (r : ℕ) → r ≤ MOST_KEYS → Tells reach r (tells.told_03 r) (tells.told_04 r) (tells.told_05 r)
 
 told_one : (reach : Reach) (r q : ℕ) (a b c : Bool) → Tells reach r a b c → (bit_or q (flags a b c) ≡ q) ⊎ IsTold reach r q (bit_or q (flags a b c))
 told_one reach r q false false false tells = inl (or_zero_r q)
@@ -49,10 +49,10 @@ told_one reach r q false true false tells = inr (inr (inl (tells, refl)))
 told_one reach r q false false true tells = inr (inr (inr (tells, refl)))
 told_one reach r q _ _ _ tells = absurd tells
 
-pub within_becomes : (s : Scope) (from : ℕ) (reach : Reach) (u : UnitState) (v : State) (t : Told) (to : Option ℕ) (out : ℕ → Bool) (left : ℕ) (t3 t4 t5 : ℕ → Bool)
-    → length s.keys ≤ MOST_KEYS → s.own ≢ from → Becomes s.keys s.hosts from to out left t3 t4 t5 u.registry v t → IsInReach s.hosts reach u.registry to out left t3 t4 t5
+pub within_becomes : (s : Scope) (from : ℕ) (reach : Reach) (u : UnitState) (v : State) (t : Told) (to : Option ℕ) (out : ℕ → Bool) (left : ℕ) (tells : Audience)
+    → length s.keys ≤ MOST_KEYS → s.own ≢ from → Becomes s.keys s.hosts from to out left tells u.registry v t → IsInReach s.hosts reach u.registry to out left tells
     → IsWithin s from reach u (then_in u v t)
-within_becomes s from reach u v t to out left t3 t4 t5 few apart becomes is = record {
+within_becomes s from reach u v t to out left tells few apart becomes is = record {
   sender = λ r so.
       let new = becomes.sender r (record { known = so.1; key = so.2 }) in
       (unwrap_or to r, (so.0, new.known, new.key), given to r (λ j at. is.given j at));
@@ -62,14 +62,14 @@ within_becomes s from reach u v t to out left t3 t4 t5 few apart becomes is = re
   reservation = (left, becomes.reservation, is.reservation);
   told = λ r q so pending.
       let at : Is s.keys u.registry s.own r = record { known = so.1; key = so.2 } in (
-        bit_or q (flags (t3 r) (t4 r) (t5 r)),
+        bit_or q (flags (tells.told_03 r) (tells.told_04 r) (tells.told_05 r)),
         (
-          told-lt q (t3 r) (t4 r) (t5 r) pending.0,
+          told-lt q (tells.told_03 r) (tells.told_04 r) (tells.told_05 r) pending.0,
           λ code. contains-told u.pending t s.own code
-              ∙ (λ i. is_pending_after (pending.1 code i) (becomes.told_03.others s.own r apart at i) (becomes.told_04.others s.own r apart at i) (becomes.told_05.others s.own r apart at i) code)
-              ∙ sym (contains-codes_told q (t3 r) (t4 r) (t5 r) code),
+              ∙ (λ i. is_pending_after (pending.1 code i) (becomes.told.told_03.others s.own r apart at i) (becomes.told.told_04.others s.own r apart at i) (becomes.told.told_05.others s.own r apart at i) code)
+              ∙ sym (contains-codes_told q (tells.told_03 r) (tells.told_04 r) (tells.told_05 r) code),
         ),
-        told_one reach r q (t3 r) (t4 r) (t5 r) (is.told r (let small = so.1 in omega arith)),
+        told_one reach r q (tells.told_03 r) (tells.told_04 r) (tells.told_05 r) (is.told r (let small = so.1 in omega arith)),
       );
 }
   where
@@ -111,8 +111,8 @@ module _ (s : Scope) (from : ℕ) (reach : Reach) (u : UnitState) where
   left_or_none o (inr ended) = inr (ap (λ v. has_wide reach.reservations (number_of s.hosts v)) ended.0 ∙ ended.1)
 
   -- nothing is removed or given
-  keeps : (left : ℕ) (t4 : ℕ → Bool) → Stays left → ((r : ℕ) → r ≤ MOST_KEYS → Tells reach r false (t4 r) false) → IsInReach s.hosts reach u.registry None never left never t4 never
-  keeps left t4 stays tells = record {
+  keeps : (left : ℕ) (those : ℕ → Bool) → Stays left → ((r : ℕ) → r ≤ MOST_KEYS → Tells reach r false (those r) false) → IsInReach s.hosts reach u.registry None never left (tells_of_loss those)
+  keeps left those stays tells = record {
     given = λ j is. let bad : None ≡ Some j = is in cc;
     removed = λ r few goes. absurd (false≢true goes);
     reservation = stays;
@@ -122,7 +122,7 @@ module _ (s : Scope) (from : ℕ) (reach : Reach) (u : UnitState) where
   module _ (few : length s.keys ≤ MOST_KEYS) (apart : s.own ≢ from) where
     pub register_within : (j k : ℕ) → j ≤ length s.keys → key_at s.keys j ≡ Some k → has reach.given j ≡ true → IsWithin s from reach u (then_in u (register u.registry from k) no_change)
     register_within j k small named gives =
-        within_becomes s from reach u _ no_change (Some j) never (number_of s.hosts u.registry.held) never never never few apart (on_register s.keys s.hosts from j k u.registry small named)
+        within_becomes s from reach u _ no_change (Some j) never (number_of s.hosts u.registry.held) tells_nobody few apart (on_register s.keys s.hosts from j k u.registry small named)
         (record {
           given = λ i is. let same : j ≡ i = cc in subst (λ n. has reach.given n ≡ true) same gives;
           removed = λ r few goes. absurd (false≢true goes);
@@ -141,7 +141,7 @@ module _ (s : Scope) (from : ℕ) (reach : Reach) (u : UnitState) where
     unregistered_within : has reach.given 0 ≡ true → Ends → Releases → IsWithin s from reach u (then_in u (without_registration u.registry from) (change_on_unregister u.registry from))
     unregistered_within gives ends tells =
         let b = holds_alone u.registry.held from && is_told_of_loss u.registry.held in
-        within_becomes s from reach u (without_registration u.registry from) (change_on_unregister u.registry from) (Some 0) never (number_of s.hosts (without_registration u.registry from).held) never (told_if b) never few apart
+        within_becomes s from reach u (without_registration u.registry from) (change_on_unregister u.registry from) (Some 0) never (number_of s.hosts (without_registration u.registry from).held) (tells_of_loss (told_if b)) few apart
         (on_unregister s.keys s.hosts from u.registry)
         (record {
           given = λ i is. let same : 0 ≡ i = cc in subst (λ n. has reach.given n ≡ true) same gives;
@@ -174,12 +174,12 @@ module _ (s : Scope) (from : ℕ) (reach : Reach) (u : UnitState) where
         at true = unregistered_within gives ends tells
         at false =
             let now = number_of s.hosts u.registry.held in
-            within_becomes s from reach u u.registry no_change None never now never never never few apart (still s.keys s.hosts from u.registry u.registry (λ g. refl)) (keeps now never (inl refl) told_none)
+            within_becomes s from reach u u.registry no_change None never now tells_nobody few apart (still s.keys s.hosts from u.registry u.registry (λ g. refl)) (keeps now never (inl refl) told_none)
 
     pub reserve_within : (t : Kind) → (u.registry.held ≡ None → has_wide reach.reservations (number_of s.hosts (Some (new_reservation t from))) ≡ true) → IsWithin s from reach u (then_in u (with_reservation u.registry from t) no_change)
     reserve_within t takes =
         let now = number_of s.hosts (with_reservation u.registry from t).held in
-        within_becomes s from reach u (with_reservation u.registry from t) no_change None never now never never never few apart (still s.keys s.hosts from u.registry (with_reservation u.registry from t) (λ g. refl))
+        within_becomes s from reach u (with_reservation u.registry from t) no_change None never now tells_nobody few apart (still s.keys s.hosts from u.registry (with_reservation u.registry from t) (λ g. refl))
         (keeps now never (at u.registry.held takes) told_none)
       where
         at : (v : Option Held) → (v ≡ None → has_wide reach.reservations (number_of s.hosts (Some (new_reservation t from))) ≡ true)
@@ -192,7 +192,7 @@ module _ (s : Scope) (from : ℕ) (reach : Reach) (u : UnitState) where
     release_within t ends tells =
         let now = number_of s.hosts (after_release u.registry from t).held in
         let b = is_released u.registry from t && is_told_of_loss u.registry.held in
-        within_becomes s from reach u (after_release u.registry from t) (change_on_release u.registry from t) None never now never (told_if b) never few apart (on_release s.keys s.hosts from t u.registry)
+        within_becomes s from reach u (after_release u.registry from t) (change_on_release u.registry from t) None never now (tells_of_loss (told_if b)) few apart (on_release s.keys s.hosts from t u.registry)
         (keeps now (told_if b) (left_or_none (after_release u.registry from t).held (at (is_released u.registry from t) refl)) (told_if_04 b (λ is. tells (both is))))
       where
         -- who releases it holds it
@@ -221,7 +221,7 @@ module _ (s : Scope) (from : ℕ) (reach : Reach) (u : UnitState) where
     pub clear_within : has reach.given 0 ≡ true → HasEveryKey reach.removed → has_wide reach.reservations 0 ≡ true → HasEveryKey reach.told_03
         → IsWithin s from reach u (then_in u (after_clear u.registry) (change_on_clear u.registry from))
     clear_within gives removes none tells =
-        within_becomes s from reach u (after_clear u.registry) (change_on_clear u.registry from) (Some 0) is_of_registrant 0 is_of_registrant never never few apart (on_clear s.keys s.hosts from u.registry)
+        within_becomes s from reach u (after_clear u.registry) (change_on_clear u.registry from) (Some 0) is_of_registrant 0 (tells_of_ending is_of_registrant) few apart (on_clear s.keys s.hosts from u.registry)
         (record {
           given = λ i is. let same : 0 ≡ i = cc in subst (λ n. has reach.given n ≡ true) same gives;
           removed = goes removes;
@@ -234,8 +234,8 @@ module _ (s : Scope) (from : ℕ) (reach : Reach) (u : UnitState) where
         → IsWithin s from reach u (then_in u (after_preempt u.registry from 0 (Some t)) (change_on_preempt u.registry from 0 (Some t)))
     preempt_all_within t all removes takes tells =
         let left = number_of s.hosts (Some (new_reservation t from)) in
-        within_becomes s from reach u (after_preempt u.registry from 0 (Some t)) (change_on_preempt u.registry from 0 (Some t)) None is_of_registrant left never never is_of_registrant few apart
-        (in_case s.keys s.hosts from None is_of_registrant left never never is_of_registrant u.registry 0 t ReplacesAll (replaces u.registry.held all) (on_preempt_all s.keys s.hosts from t u.registry))
+        within_becomes s from reach u (after_preempt u.registry from 0 (Some t)) (change_on_preempt u.registry from 0 (Some t)) None is_of_registrant left (tells_of_removal is_of_registrant) few apart
+        (in_case s.keys s.hosts from None is_of_registrant left (tells_of_removal is_of_registrant) u.registry 0 t ReplacesAll (replaces u.registry.held all) (on_preempt_all s.keys s.hosts from t u.registry))
         (record {
           given = λ j is. let bad : None ≡ Some j = is in cc;
           removed = goes removes;
@@ -311,8 +311,8 @@ module _ (s : Scope) (from : ℕ) (reach : Reach) (u : UnitState) where
             let left = number_of s.hosts (Some (new_reservation t from)) in
             let b = not (is_kind held t) in
             let holder = holder_of held u.registry.held refl is in
-            within_becomes s from reach u (after_preempt u.registry from k (Some t)) (change_on_preempt u.registry from k (Some t)) None out left never (told_but b j) out few apart
-            (in_case s.keys s.hosts from None out left never (told_but b j) out u.registry k t (ReplacesHolder held) is (on_preempt_holder s.keys s.hosts from j k t held u.registry once small named))
+            within_becomes s from reach u (after_preempt u.registry from k (Some t)) (change_on_preempt u.registry from k (Some t)) None out left (tells_of_replacement (told_but b j) out) few apart
+            (in_case s.keys s.hosts from None out left (tells_of_replacement (told_but b j) out) u.registry k t (ReplacesHolder held) is (on_preempt_holder s.keys s.hosts from j k t held u.registry once small named))
             (record {
               given = λ i is. let bad : None ≡ Some i = is in cc;
               removed = gone;
@@ -388,8 +388,8 @@ module _ (s : Scope) (from : ℕ) (reach : Reach) (u : UnitState) where
         removes_key : preempt_case u.registry.keys u.registry.held k ≡ RemovesKey → IsWithin s from reach u (then_in u (after_preempt u.registry from k (Some t)) (change_on_preempt u.registry from k (Some t)))
         removes_key is =
             let left = number_of s.hosts (held_by_rest rest u.registry.held) in
-            within_becomes s from reach u (after_preempt u.registry from k (Some t)) (change_on_preempt u.registry from k (Some t)) (lost_if own) out left never never out few apart
-            (in_case s.keys s.hosts from (lost_if own) out left never never out u.registry k t RemovesKey is (on_preempt_key s.keys s.hosts from j k t u.registry own once small named one))
+            within_becomes s from reach u (after_preempt u.registry from k (Some t)) (change_on_preempt u.registry from k (Some t)) (lost_if own) out left (tells_of_removal out) few apart
+            (in_case s.keys s.hosts from (lost_if own) out left (tells_of_removal out) u.registry k t RemovesKey is (on_preempt_key s.keys s.hosts from j k t u.registry own once small named one))
             (record {
               given = gives own refl;
               removed = gone;

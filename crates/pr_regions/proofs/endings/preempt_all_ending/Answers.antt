@@ -1,4 +1,5 @@
-use Rattle.pr_regions.proofs.Common.{sym, ◌∙◌}
+use Rattle.pr_regions.proofs.Common.{sym, ◌∙◌, is_of_registrant}
+use Rattle.pr_regions.proofs.lemmas.Regions.Effects.{then_of_removal}
 use Rattle.pr_regions.proofs.lemmas.Parts.Keys.{keys_those}
 use Rattle.pr_regions.proofs.lemmas.Parts.Services.{preempt_all_good, preempt_all_fault}
 use Rattle.pr_regions.proofs.endings.preempt_all_ending.Goals as goal
@@ -15,8 +16,6 @@ returns c =
       sender = change.sender;
       removed = (keys_those c.every_key.result c.every_key.ensures.keys c.every_key.ensures.none);
       reservation = change.reservation;
-      told_03 = change.told_03;
-      told_04 = change.told_04;
-      told_05 = (keys_those c.every_key-2.result c.every_key-2.ensures.keys c.every_key-2.ensures.none);
+      told = then_of_removal _ _ _ _ is_of_registrant change.told (keys_those c.every_key-2.result c.every_key-2.ensures.keys c.every_key-2.ensures.none);
     })
     c.new_change.ensures.room

@@ -6,5 +6,5 @@ pub returns : goal.returns
 returns c =
     let change = c.no_change.ensures.change in
     register_good c.args.sender.hosts c.args.key c.args.sender.held c.args.sender.number c.args.sender.standing _ c.requires
-    (record { sender = refl; removed = change.removed; reservation = change.reservation; told_03 = change.told_03; told_04 = change.told_04; told_05 = change.told_05 })
+    (record { sender = refl; removed = change.removed; reservation = change.reservation; told = change.told })
     (c.requires.1, c.no_change.ensures.room.1)

@@ -1,4 +1,4 @@
-use Rattle.pr_regions.proofs.Common.{◌&&◌, None, sym, ap, subst, ◌∙◌, is_kind, kind_of, number_of, holds, never, Does}
+use Rattle.pr_regions.proofs.Common.{◌&&◌, None, sym, ap, subst, ◌∙◌, is_kind, kind_of, number_of, holds, never, Does, tells_nobody}
 use Rattle.std.proofs.lemmas.Bool.{and_right}
 use Rattle.pr_regions.proofs.lemmas.Parts.Services.{reserve_new, reserve_same, reserve_conflict}
 use Rattle.pr_regions.proofs.endings.reserve_ending.Goals as goal
@@ -12,7 +12,7 @@ pub returns-then-is_kind : goal.returns-then-is_kind
 returns-then-is_kind c =
     reserve_same c.args.sender.hosts c.args.kind c.args.sender.held c.in-Some.held c.args.sender.number c.args.sender.standing c.no_change.result c.in-Some.is
     (sym c.holds.ensures ∙ c.if-holds.true) (ap (λ t. is_kind t c.args.kind) (sym c.kind_of.ensures) ∙ sym c.is_kind.ensures ∙ c.if-is_kind.true)
-    (subst (λ v. Does c.no_change.result None never (number_of c.args.sender.hosts v) never never never) c.in-Some.is c.no_change.ensures.change) c.no_change.ensures.room
+    (subst (λ v. Does c.no_change.result None never (number_of c.args.sender.hosts v) tells_nobody) c.in-Some.is c.no_change.ensures.change) c.no_change.ensures.room
 
 pub returns-else-holds : goal.returns-else-holds
 returns-else-holds c =

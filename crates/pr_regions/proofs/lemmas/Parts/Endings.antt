@@ -1,5 +1,5 @@
 -- How a command ends in a state that meets what is known, by its purpose.
-use Rattle.pr_regions.proofs.Common.{◌≡◌, ℕ, zero, suc, ◌<◌, ◌≤◌, Bool, true, false, not, if◌then◌else◌, Some, None, Option, unwrap_or, sym, refl, ap, ◌∙◌, subst, arith, nat_tests, Command, Sense, no_change, State, is_registered, Held, One, All, UnitState, Scope, number_of, HasNumber, Meets, HasRoom, Ends, Purpose, Standing, Transition, Conflict, Fault, Good, Does, never, is_unregistered, holds, is_of_registrant, MOST_KEYS}
+use Rattle.pr_regions.proofs.Common.{◌≡◌, ℕ, zero, suc, ◌<◌, ◌≤◌, Bool, true, false, not, if◌then◌else◌, Some, None, Option, unwrap_or, sym, refl, ap, ◌∙◌, subst, arith, nat_tests, Command, Sense, no_change, State, is_registered, Held, One, All, UnitState, Scope, number_of, HasNumber, Meets, HasRoom, Ends, Purpose, Standing, Transition, Conflict, Fault, Good, Does, never, is_unregistered, holds, is_of_registrant, MOST_KEYS, Audience, tells_nobody}
 use Rattle.std.proofs.Math.Bool.{not-not}
 use Rattle.pr_registry.specs.declared.change.Change.{Change as Told}
 use Rattle.pr_registry.specs.Registrations.{is_holder}
@@ -71,46 +71,44 @@ fault_ends s p held sender standing u c sense has m free faulty =
     let asked = asks s p held sender standing u c has m in (asked.conflicting ∙ free, asked.faulty ∙ faulty)
 
 pub good_ends : (s : Scope) (p : Purpose) (held : Option Held) (sender : ℕ) (standing : Standing) (u : UnitState) (c : Command)
-    (to : Option ℕ) (out : ℕ → Bool) (left : ℕ) (t3 t4 t5 : ℕ → Bool) (b : Transition) → HasNumber p
+    (to : Option ℕ) (out : ℕ → Bool) (left : ℕ) (tells : Audience) (b : Transition) → HasNumber p
     → Meets s p held sender standing u c → conflicts_for s.keys u.registry sender p ≡ false → fault_for s.keys u.registry sender p ≡ None
-    → Does b to out left t3 t4 t5
-    → Becomes s.keys s.hosts sender to out left t3 t4 t5 u.registry (after_for s.keys u.registry sender p) (change_for s.keys u.registry sender p)
+    → Does b to out left tells
+    → Becomes s.keys s.hosts sender to out left tells u.registry (after_for s.keys u.registry sender p) (change_for s.keys u.registry sender p)
     → Ends s sender (Good b) u c
-good_ends s p held sender standing u c to out left t3 t4 t5 b has m free whole does becomes =
+good_ends s p held sender standing u c to out left tells b has m free whole does becomes =
     let asked = asks s p held sender standing u c has m in
-    let known = acts s.keys s.hosts sender to out left t3 t4 t5 u.registry (after_for s.keys u.registry sender p) (change_for s.keys u.registry sender p) b (few_keys s.keys m.scope.keys) does becomes in
+    let known = acts s.keys s.hosts sender to out left tells u.registry (after_for s.keys u.registry sender p) (change_for s.keys u.registry sender p) b (few_keys s.keys m.scope.keys) does becomes in
     let so : Acts s.keys s.hosts sender b u.registry (after u.registry sender c) (change u.registry sender c) =
     subst (λ (v : State). Acts s.keys s.hosts sender b u.registry v (change u.registry sender c)) (sym asked.after)
     (subst (λ (t : Told). Acts s.keys s.hosts sender b u.registry (after_for s.keys u.registry sender p) t) (sym asked.change) known) in
     (asked.conflicting ∙ free, asked.faulty ∙ whole, changes s sender b u (after u.registry sender c) (change u.registry sender c) so)
 
 -- a number that is left, by another name
-pub leaves : (b : Transition) (to : Option ℕ) (out : ℕ → Bool) (x y : ℕ) (t3 t4 t5 : ℕ → Bool) → x ≡ y → Does b to out x t3 t4 t5 → Does b to out y t3 t4 t5
-leaves b to out x y t3 t4 t5 same does = record {
+pub leaves : (b : Transition) (to : Option ℕ) (out : ℕ → Bool) (x y : ℕ) (tells : Audience) → x ≡ y → Does b to out x tells → Does b to out y tells
+leaves b to out x y tells same does = record {
   sender = does.sender;
   removed = does.removed;
   reservation = does.reservation ∙ same;
-  told_03 = does.told_03;
-  told_04 = does.told_04;
-  told_05 = does.told_05;
+  told = does.told;
 }
 
 -- the numbers of a change fit where those that it is to have do
-pub has_room : (hosts : ℕ) (b : Transition) (to : Option ℕ) (out : ℕ → Bool) (left : ℕ) (t3 t4 t5 : ℕ → Bool) → Does b to out left t3 t4 t5
+pub has_room : (hosts : ℕ) (b : Transition) (to : Option ℕ) (out : ℕ → Bool) (left : ℕ) (tells : Audience) → Does b to out left tells
     → unwrap_or to 0 ≤ MOST_KEYS → left < count_of_reservations hosts → HasRoom hosts (Good b)
-has_room hosts b to out left t3 t4 t5 does small below =
+has_room hosts b to out left tells does small below =
     (subst (λ (o : Option ℕ). unwrap_or o 0 ≤ MOST_KEYS) (sym does.sender) small, subst (λ n. n < count_of_reservations hosts) (sym does.reservation) below)
 
 -- the command changes nothing
 pub same_ends : (s : Scope) (p : Purpose) (held : Option Held) (sender : ℕ) (standing : Standing) (u : UnitState) (c : Command) (hosts : ℕ) (b : Transition) → HasNumber p
     → Meets s p held sender standing u c → s.hosts ≡ hosts → conflicts_for s.keys u.registry sender p ≡ false → fault_for s.keys u.registry sender p ≡ None
     → after_for s.keys u.registry sender p ≡ u.registry → change_for s.keys u.registry sender p ≡ no_change
-    → Does b None never (number_of hosts held) never never never → Ends s sender (Good b) u c
+    → Does b None never (number_of hosts held) tells_nobody → Ends s sender (Good b) u c
 same_ends s p held sender standing u c hosts b has m alike free whole stays tells does =
     let left : number_of hosts held ≡ number_of s.hosts u.registry.held = λ i. number_of (sym alike i) (sym m.held i) in
     let known = still s.keys s.hosts sender u.registry u.registry (λ g. refl) in
     let now = number_of s.hosts u.registry.held in
-    let so : Becomes s.keys s.hosts sender None never now never never never u.registry (after_for s.keys u.registry sender p) (change_for s.keys u.registry sender p) =
-    subst (λ (v : State). Becomes s.keys s.hosts sender None never now never never never u.registry v (change_for s.keys u.registry sender p)) (sym stays)
-    (subst (λ (t : Told). Becomes s.keys s.hosts sender None never now never never never u.registry u.registry t) (sym tells) known) in
-    good_ends s p held sender standing u c None never now never never never b has m free whole (leaves b None never (number_of hosts held) now never never never left does) so
+    let so : Becomes s.keys s.hosts sender None never now tells_nobody u.registry (after_for s.keys u.registry sender p) (change_for s.keys u.registry sender p) =
+    subst (λ (v : State). Becomes s.keys s.hosts sender None never now tells_nobody u.registry v (change_for s.keys u.registry sender p)) (sym stays)
+    (subst (λ (t : Told). Becomes s.keys s.hosts sender None never now tells_nobody u.registry u.registry t) (sym tells) known) in
+    good_ends s p held sender standing u c None never now tells_nobody b has m free whole (leaves b None never (number_of hosts held) now tells_nobody left does) so

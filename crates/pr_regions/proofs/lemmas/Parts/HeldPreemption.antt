@@ -1,5 +1,5 @@
 -- The branches of a command that preempts a key while another host holds the reservation alone.
-use Rattle.pr_regions.proofs.Common.{◌≡◌, ℕ, ◌<◌, Bool, true, false, not, ◌≢◌, ◌⊎◌, [], ◌∷◌, is_some, if◌then◌else◌, IsTrue, ◌==◌, Some, None, Option, sym, refl, ap, ◌∙◌, subst, inl, inr, arith, not-true, false≢true, nat_tests, Command, Kind, is_kind, held_by_rest, is_key, Keys, key_of, new_reservation, Held, One, UnitState, HasSomebody, Scope, number_of, Registration, IsSo, HasNumber, Meets, HasRoom, IsInRegion, IsCovered, Standing, Branch, Transition, Conflict, Good, Does, never, any, only, is_of_registrant, but, another, told_but, lost_if, is_named, Leaves, EndsIn, Tell, eq-eqb}
+use Rattle.pr_regions.proofs.Common.{◌≡◌, ℕ, ◌<◌, Bool, true, false, not, ◌≢◌, ◌⊎◌, [], ◌∷◌, is_some, if◌then◌else◌, IsTrue, ◌==◌, Some, None, Option, sym, refl, ap, ◌∙◌, subst, inl, inr, arith, not-true, false≢true, nat_tests, Command, Kind, is_kind, held_by_rest, is_key, Keys, key_of, new_reservation, Held, One, UnitState, HasSomebody, Scope, number_of, Registration, IsSo, HasNumber, Meets, HasRoom, IsInRegion, IsCovered, Standing, Branch, Transition, Conflict, Good, Does, any, only, is_of_registrant, but, another, told_but, lost_if, is_named, Leaves, EndsIn, Tell, eq-eqb, tells_of_removal, tells_of_replacement}
 use Rattle.pr_unit.specs.declared.demand.Demand.TheVariants.{Preempt}
 use Rattle.std.specs.FinMap as map
 use Rattle.pr_registry.specs.Registrations.{HasHolder}
@@ -63,7 +63,7 @@ holder_is s j t old h sender standing u c b holder others test apart m leaves in
 -- the holder has the key
 pub holders_key : (hosts j : ℕ) (t old : Kind) (h sender : ℕ) (standing : Standing) (b : Branch) (change : Transition) → HasNumber (Preempt j t) → h ≢ sender
     → Leaves b.region (only j) any None → b.ending ≡ Good change
-    → Does change None (only j) (number_of hosts (Some (new_reservation t sender))) never (told_but (not (is_kind old t)) j) (only j) → HasRoom hosts (Good change)
+    → Does change None (only j) (number_of hosts (Some (new_reservation t sender))) (tells_of_replacement (told_but (not (is_kind old t)) j) (only j)) → HasRoom hosts (Good change)
     → EndsIn hosts (Preempt j t) (held_by old h) sender standing b
 holders_key hosts j t old h sender standing b change has apart leaves ending does room = record {
   ends = λ s u c alike m inside.
@@ -92,7 +92,7 @@ same_number s hosts old h u rest alike is = λ i. number_of (sym alike i) (held_
 
 -- the holder has another key, and the sender this one
 pub own_key_goes : (hosts j : ℕ) (t old : Kind) (h sender : ℕ) (standing : Standing) (b : Branch) (goes : Transition) → HasNumber (Preempt j t) → h ≢ sender → is_named standing ≡ true
-    → Leaves b.region (another j) any None → b.ending ≡ Good goes → Does goes (lost_if true) (only j) (number_of hosts (held_by old h)) never never (only j) → HasRoom hosts (Good goes)
+    → Leaves b.region (another j) any None → b.ending ≡ Good goes → Does goes (lost_if true) (only j) (number_of hosts (held_by old h)) (tells_of_removal (only j)) → HasRoom hosts (Good goes)
     → EndsIn hosts (Preempt j t) (held_by old h) sender standing b
 own_key_goes hosts j t old h sender standing b goes has apart own leaves ending does room = record {
   ends = λ s u c alike m inside.
@@ -100,14 +100,14 @@ own_key_goes hosts j t old h sender standing b goes has apart own leaves ending 
       rw ending (removed_ends s j t (held_by old h) sender standing u c (number_of hosts (held_by old h)) sender goes has m
       (not_holders s j t old h sender standing u c b any None apart m keys leaves inside) (own_key s j t (held_by old h) sender standing u c m keys own)
       (same_number s hosts old h u _ alike m.held)
-      (does_so goes true (is_named standing) (only j) (number_of hosts (held_by old h)) (only j) own does));
+      (does_so goes true (is_named standing) (only j) (number_of hosts (held_by old h)) (tells_of_removal (only j)) own does));
   proper = untested b.region.somebody leaves.tested;
   fits = rw ending room;
 }
 
 -- the holder has another key, and so has the sender, and somebody has this one
 pub somebodys_key_goes : (hosts j : ℕ) (t old : Kind) (h sender : ℕ) (standing : Standing) (b : Branch) (goes : Transition) → HasNumber (Preempt j t) → h ≢ sender → is_named standing ≡ false
-    → Leaves b.region (another j) any (Some (only j)) → b.ending ≡ Good goes → Does goes (lost_if false) (only j) (number_of hosts (held_by old h)) never never (only j) → HasRoom hosts (Good goes)
+    → Leaves b.region (another j) any (Some (only j)) → b.ending ≡ Good goes → Does goes (lost_if false) (only j) (number_of hosts (held_by old h)) (tells_of_removal (only j)) → HasRoom hosts (Good goes)
     → EndsIn hosts (Preempt j t) (held_by old h) sender standing b
 somebodys_key_goes hosts j t old h sender standing b goes has apart other leaves ending does room = record {
   ends = λ s u c alike m inside.
@@ -116,7 +116,7 @@ somebodys_key_goes hosts j t old h sender standing b goes has apart other leaves
       rw ending (removed_ends s j t (held_by old h) sender standing u c (number_of hosts (held_by old h)) there.0 goes has m
       (not_holders s j t old h sender standing u c b any (Some (only j)) apart m keys leaves inside) (key_is s j sender standing u there.0 there.1 keys there.3 there.4)
       (same_number s hosts old h u _ alike m.held)
-      (does_so goes false (is_named standing) (only j) (number_of hosts (held_by old h)) (only j) other does));
+      (does_so goes false (is_named standing) (only j) (number_of hosts (held_by old h)) (tells_of_removal (only j)) other does));
   proper = tested b.region.somebody (only j) (none_is_not j has.0) leaves.tested;
   fits = rw ending room;
 }

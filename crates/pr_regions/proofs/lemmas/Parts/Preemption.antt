@@ -1,5 +1,5 @@
 -- The branches of a command that preempts a key.
-use Rattle.pr_regions.proofs.Common.{◌≡◌, ℕ, ◌≤◌, Bool, true, false, not, ◌&&◌, ◌||◌, ◌≢◌, ◌⊎◌, [], ◌∷◌, is_some, if◌then◌else◌, ◌==◌, Some, None, Option, sym, refl, ap, ◌∙◌, subst, inl, inr, arith, not-true, false≢true, nat_tests, eqb_tells, Command, Kind, is_held_by_all, is_kind, held_by_rest, is_key, Keys, without, hosts_with, is_empty, is_registered, key_of, new_reservation, Held, One, All, UnitState, HasSomebody, Scope, number_of, key_at, Registration, IsSo, HasNumber, Meets, HasRoom, IsCovered, Standing, Branch, Transition, Conflict, Good, Does, AlwaysEnds, never, any, only, but, another, told_but, lost_if, is_named, Leaves, EndsIn, Tell, ne_eqb}
+use Rattle.pr_regions.proofs.Common.{◌≡◌, ℕ, ◌≤◌, Bool, true, false, not, ◌&&◌, ◌||◌, ◌≢◌, ◌⊎◌, [], ◌∷◌, is_some, if◌then◌else◌, ◌==◌, Some, None, Option, sym, refl, ap, ◌∙◌, subst, inl, inr, arith, not-true, false≢true, nat_tests, eqb_tells, Command, Kind, is_held_by_all, is_kind, held_by_rest, is_key, Keys, without, hosts_with, is_empty, is_registered, key_of, new_reservation, Held, One, All, UnitState, HasSomebody, Scope, number_of, key_at, Registration, IsSo, HasNumber, Meets, HasRoom, IsCovered, Standing, Branch, Transition, Conflict, Good, Does, AlwaysEnds, any, only, but, another, told_but, lost_if, is_named, Leaves, EndsIn, Tell, ne_eqb, Audience, tells_of_removal, tells_of_replacement}
 use Rattle.pr_unit.specs.declared.demand.Demand.TheVariants.{Preempt}
 use Rattle.std.specs.FinMap as map
 use Rattle.pr_regions.specs.inside.Parts.{free_or, IsNotAnothers}
@@ -74,14 +74,14 @@ own_key s j t held sender standing u c m keys own =
     key_is s j sender standing u sender it.number keys (m.below, it.is.known, it.is.key) (keys.own it.number it.is ∙ own)
 
 -- what a change does, by how the sender stands
-pub does_so : (change : Transition) (b named : Bool) (out : ℕ → Bool) (left : ℕ) (t5 : ℕ → Bool) → named ≡ b → Does change (lost_if b) out left never never t5 → Does change (lost_if named) out left never never t5
-does_so change b named out left t5 is does = subst (λ x. Does change (lost_if x) out left never never t5) (sym is) does
+pub does_so : (change : Transition) (b named : Bool) (out : ℕ → Bool) (left : ℕ) (tells : Audience) → named ≡ b → Does change (lost_if b) out left tells → Does change (lost_if named) out left tells
+does_so change b named out left tells is does = subst (λ x. Does change (lost_if x) out left tells) (sym is) does
 
 -- ---- another's key, and no other host holds alone
 
 pub tell_others : (hosts j : ℕ) (t : Kind) (held : Option Held) (sender : ℕ) (standing : Standing) (b d : Branch) (goes : Transition) → HasNumber (Preempt j t)
     → is_named standing ≡ false → IsNotAnothers held sender
-    → Leaves b.region any any (Some (only j)) → b.ending ≡ Good goes → Does goes (lost_if false) (only j) (number_of hosts held) never never (only j) → HasRoom hosts (Good goes)
+    → Leaves b.region any any (Some (only j)) → b.ending ≡ Good goes → Does goes (lost_if false) (only j) (number_of hosts held) (tells_of_removal (only j)) → HasRoom hosts (Good goes)
     → Leaves d.region any (but j) None → d.ending ≡ Conflict
     → Tell hosts (Preempt j t) held sender standing (b ∷ d ∷ [])
 tell_others hosts j t held sender standing b d goes has other own leaves_b ends_b does room leaves_d ends_d =
@@ -95,7 +95,7 @@ tell_others hosts j t held sender standing b d goes has other own leaves_b ends_
           (key_is s j sender standing u there.0 there.1 keys there.3 there.4)
           ((λ i. number_of (sym alike i) (sym m.held i)) ∙ ap (number_of s.hosts) (sym (rest_stays (without u.registry.keys (hosts_with u.registry.keys (key_named s.keys j))) u.registry.held
           (sender_left s j t held sender standing u c m keys other))))
-          (does_so goes false (is_named standing) (only j) (number_of hosts held) (only j) other does));
+          (does_so goes false (is_named standing) (only j) (number_of hosts held) (tells_of_removal (only j)) other does));
       proper = tested b.region.somebody (only j) (none_is_not j has.0) leaves_b.tested;
       fits = rw ends_b room;
     })
@@ -128,19 +128,19 @@ tell_others hosts j t held sender standing b d goes has other own leaves_b ends_
 -- ---- the sender's own key
 
 pub own_unheld : (hosts j : ℕ) (t : Kind) (sender : ℕ) (standing : Standing) (goes : Transition) → HasNumber (Preempt j t) → is_named standing ≡ true
-    → Does goes (lost_if true) (only j) 0 never never (only j) → HasRoom hosts (Good goes) → AlwaysEnds hosts (Preempt j t) None sender standing (Good goes)
+    → Does goes (lost_if true) (only j) 0 (tells_of_removal (only j)) → HasRoom hosts (Good goes) → AlwaysEnds hosts (Preempt j t) None sender standing (Good goes)
 own_unheld hosts j t sender standing goes has own does room = record {
   ends = λ s u c alike m.
       let keys = keys_of s j t None sender standing u c has m in
       removed_ends s j t None sender standing u c 0 sender goes has m (subst (λ (v : Option Held). IsNotHolders u.registry.keys v (key_named s.keys j)) (sym m.held) tt)
       (own_key s j t None sender standing u c m keys own)
       (ap (λ v. number_of s.hosts (held_by_rest (without u.registry.keys (hosts_with u.registry.keys (key_named s.keys j))) v)) (sym m.held))
-      (does_so goes true (is_named standing) (only j) 0 (only j) own does);
+      (does_so goes true (is_named standing) (only j) 0 (tells_of_removal (only j)) own does);
   fits = room;
 }
 
 pub own_single : (hosts j : ℕ) (t old : Kind) (h sender : ℕ) (standing : Standing) (change : Transition) → HasNumber (Preempt j t) → is_named standing ≡ true → h ≡ sender
-    → Does change None (only j) (number_of hosts (Some (new_reservation t sender))) never (told_but (not (is_kind old t)) j) (only j) → HasRoom hosts (Good change)
+    → Does change None (only j) (number_of hosts (Some (new_reservation t sender))) (tells_of_replacement (told_but (not (is_kind old t)) j) (only j)) → HasRoom hosts (Good change)
     → AlwaysEnds hosts (Preempt j t) (Some (One old h)) sender standing (Good change)
 own_single hosts j t old h sender standing change has own is does room = record {
   ends = λ s u c alike m.
@@ -152,8 +152,8 @@ own_single hosts j t old h sender standing change has own is does room = record 
 -- of all registrants
 pub tell_own : (hosts j : ℕ) (t : Kind) (held : Option Held) (sender : ℕ) (standing : Standing) (b d : Branch) (stays ends : Transition) → HasNumber (Preempt j t)
     → is_named standing ≡ true → is_held_by_all held ≡ true
-    → Leaves b.region any any (Some (another j)) → b.ending ≡ Good stays → Does stays (lost_if true) (only j) (number_of hosts held) never never (only j) → HasRoom hosts (Good stays)
-    → Leaves d.region any (free_or j) None → d.ending ≡ Good ends → Does ends (lost_if true) (only j) 0 never never (only j) → HasRoom hosts (Good ends)
+    → Leaves b.region any any (Some (another j)) → b.ending ≡ Good stays → Does stays (lost_if true) (only j) (number_of hosts held) (tells_of_removal (only j)) → HasRoom hosts (Good stays)
+    → Leaves d.region any (free_or j) None → d.ending ≡ Good ends → Does ends (lost_if true) (only j) 0 (tells_of_removal (only j)) → HasRoom hosts (Good ends)
     → Tell hosts (Preempt j t) held sender standing (b ∷ d ∷ [])
 tell_own hosts j t held sender standing b d stays ends has own all leaves_b ends_b does_b room_b leaves_d ends_d does_d room_d =
     tell hosts (Preempt j t) held sender standing (b ∷ d ∷ [])
@@ -168,7 +168,7 @@ tell_own hosts j t held sender standing b d stays ends has own all leaves_b ends
           (nobodys_alone u.registry.keys u.registry.held (key_named s.keys j) (ap is_held_by_all m.held ∙ all)) (own_key s j t held sender standing u c m keys own)
           ((λ i. number_of (sym alike i) (sym m.held i)) ∙ ap (number_of s.hosts) (sym (rest_stays (without u.registry.keys (hosts_with u.registry.keys (key_named s.keys j))) u.registry.held
           (number_left s j sender standing u there.0 there.1 keys there.3 holds parts.1))))
-          (does_so stays true (is_named standing) (only j) (number_of hosts held) (only j) own does_b));
+          (does_so stays true (is_named standing) (only j) (number_of hosts held) (tells_of_removal (only j)) own does_b));
       proper = tested b.region.somebody (another j) refl leaves_b.tested;
       fits = rw ends_b room_b;
     })
@@ -183,7 +183,7 @@ tell_own hosts j t held sender standing b d stays ends has own all leaves_b ends
           rw ends_d (removed_ends s j t held sender standing u c 0 sender ends has m
           (nobodys_alone u.registry.keys u.registry.held (key_named s.keys j) (ap is_held_by_all m.held ∙ all)) (own_key s j t held sender standing u c m keys own)
           (ap (number_of s.hosts) (sym (ended left u.registry.held (ap is_held_by_all m.held ∙ all) none)))
-          (does_so ends true (is_named standing) (only j) 0 (only j) own does_d));
+          (does_so ends true (is_named standing) (only j) 0 (tells_of_removal (only j)) own does_d));
       proper = untested d.region.somebody leaves_d.tested;
       fits = rw ends_d room_d;
     }))

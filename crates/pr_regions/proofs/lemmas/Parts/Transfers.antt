@@ -1,5 +1,5 @@
 -- How commands that read and write blocks end.
-use Rattle.pr_regions.proofs.Common.{◌≡◌, ℕ, Bool, true, false, not, List, if◌then◌else◌, Some, None, Option, sym, refl, ap, ◌∙◌, Command, Kind, Sense, no_change, State, is_registered, kind_of, Held, illegal, UnitState, Scope, number_of, HasNumber, Meets, HasRoom, Purpose, Standing, Transition, Conflict, Fault, Good, Does, AlwaysEnds, never, is_unregistered, holds}
+use Rattle.pr_regions.proofs.Common.{◌≡◌, ℕ, Bool, true, false, not, List, if◌then◌else◌, Some, None, Option, sym, refl, ap, ◌∙◌, Command, Kind, Sense, no_change, State, is_registered, kind_of, Held, illegal, UnitState, Scope, number_of, HasNumber, Meets, HasRoom, Purpose, Standing, Transition, Conflict, Fault, Good, Does, AlwaysEnds, never, is_unregistered, holds, tells_nobody}
 use Rattle.pr_unit.specs.declared.demand.Demand.TheVariants.{Read, Write}
 use Rattle.std.proofs.Math.Bool.{not-not}
 use Rattle.pr_cdb.specs.declared.command.Kind.TheVariants.{WriteExclusive, ExclusiveAccess, ExclusiveAccessRegistrantsOnly, ExclusiveAccessAllRegistrants}
@@ -80,7 +80,7 @@ module _ (hosts : ℕ) (p : Purpose) (kept in_range : Bool) (held : Option Held)
     fits = tt;
   }
 
-  pub move_goes : (change : Transition) → kept ≡ false → in_range ≡ true → Does change None never (number_of hosts held) never never never → HasRoom hosts (Good change)
+  pub move_goes : (change : Transition) → kept ≡ false → in_range ≡ true → Does change None never (number_of hosts held) tells_nobody → HasRoom hosts (Good change)
       → AlwaysEnds hosts p held sender standing (Good change)
   move_goes change free within does room = record {
     ends = λ s u c alike m.

@@ -1,5 +1,5 @@
 -- How a command ends by which its sender is registered no more.
-use Rattle.pr_regions.proofs.Common.{◌≡◌, ℕ, zero, suc, ◌<◌, Bool, true, false, not, ◌&&◌, ◌≢◌, ◌⊎◌, [], ◌∷◌, is_some, if◌then◌else◌, ◌==◌, Some, None, Option, sym, refl, ap, ◌∙◌, subst, inl, inr, arith, false≢true, eqb_tells, Command, no_change, is_held_by_all, change_on_unregister, is_told_of_loss, held_by_rest, without, is_empty, State, is_registered, key_of, Held, One, All, get-without, UnitState, HasSomebody, Scope, number_of, Registration, IsSo, Meets, HasRoom, IsCovered, Ends, Purpose, Standing, Branch, Transition, Good, Does, AlwaysEnds, never, is_unregistered, any, only, is_of_registrant, told_if, Leaves, EndsIn, Tell, ne_eqb}
+use Rattle.pr_regions.proofs.Common.{◌≡◌, ℕ, zero, suc, ◌<◌, Bool, true, false, not, ◌&&◌, ◌≢◌, ◌⊎◌, [], ◌∷◌, is_some, if◌then◌else◌, ◌==◌, Some, None, Option, sym, refl, ap, ◌∙◌, subst, inl, inr, arith, false≢true, eqb_tells, Command, no_change, is_held_by_all, change_on_unregister, is_told_of_loss, held_by_rest, without, is_empty, State, is_registered, key_of, Held, One, All, get-without, UnitState, HasSomebody, Scope, number_of, Registration, IsSo, Meets, HasRoom, IsCovered, Ends, Purpose, Standing, Branch, Transition, Good, Does, AlwaysEnds, never, is_unregistered, any, only, is_of_registrant, told_if, Leaves, EndsIn, Tell, ne_eqb, tells_nobody, tells_of_loss}
 use Rattle.pr_unit.specs.declared.demand.Demand.TheVariants.{Unregister}
 use Rattle.std.specs.FinMap as map
 use Rattle.std.proofs.lemmas.Bool.{not-false}
@@ -10,7 +10,7 @@ use Rattle.pr_registry.proofs.lemmas.Sets.{contains-just, is_empty_from_none, no
 use Rattle.pr_views.proofs.lemmas.Possibilities.Numbers.{key_there}
 use Rattle.pr_regions.proofs.lemmas.Purposes.Conduct.{after_for, change_for}
 use Rattle.pr_regions.proofs.lemmas.Regions.Effects.{Becomes, on_unregister, is_registered-number}
-use Rattle.pr_regions.proofs.lemmas.Parts.Endings.{registered_or_not, good_ends, same_ends}
+use Rattle.pr_regions.proofs.lemmas.Parts.Endings.{registered_or_not, good_ends, leaves, same_ends}
 use Rattle.pr_regions.proofs.lemmas.Parts.Branches.{left_to, in_region, from_region, HasNobody, somebody_or_nobody, each_of_two, everyone, untested, tested, tell}
 use Rattle.pr_regions.proofs.lemmas.Portions.GatheredStates.{few_keys}
 
@@ -81,7 +81,7 @@ alone_of_all _ h all = refl
 -- ---- how it ends
 
 pub unregister_absent : (hosts : ℕ) (held : Option Held) (sender : ℕ) (standing : Standing) (change : Transition) → is_unregistered standing ≡ true
-    → Does change None never (number_of hosts held) never never never → HasRoom hosts (Good change) → AlwaysEnds hosts Unregister held sender standing (Good change)
+    → Does change None never (number_of hosts held) tells_nobody → HasRoom hosts (Good change) → AlwaysEnds hosts Unregister held sender standing (Good change)
 unregister_absent hosts held sender standing change absent does room = record {
   ends = λ s u c alike m.
       let out : is_registered u.registry sender ≡ false = registered_or_not s Unregister held sender standing u c m ∙ ap not absent in
@@ -94,29 +94,22 @@ unregister_absent hosts held sender standing change absent does room = record {
 unregister_ends : (s : Scope) (held : Option Held) (sender : ℕ) (standing : Standing) (u : UnitState) (c : Command) (left : ℕ) (told : Bool) (change : Transition)
     → Meets s Unregister held sender standing u c → is_unregistered standing ≡ false
     → left ≡ number_of s.hosts (without_registration u.registry sender).held → told ≡ (holds_alone u.registry.held sender && is_told_of_loss u.registry.held)
-    → Does change (Some 0) never left never (told_if told) never → Ends s sender (Good change) u c
+    → Does change (Some 0) never left (tells_of_loss (told_if told)) → Ends s sender (Good change) u c
 unregister_ends s held sender standing u c left told change m present leaves_it tells does =
     let there : is_registered u.registry sender ≡ true = registered_or_not s Unregister held sender standing u c m ∙ ap not present in
     let now = number_of s.hosts (without_registration u.registry sender).held in
     let b = holds_alone u.registry.held sender && is_told_of_loss u.registry.held in
     let known = on_unregister s.keys s.hosts sender u.registry in
-    let so : Becomes s.keys s.hosts sender (Some 0) never now never (told_if b) never u.registry (after_for s.keys u.registry sender Unregister) (change_for s.keys u.registry sender Unregister) =
+    let so : Becomes s.keys s.hosts sender (Some 0) never now (tells_of_loss (told_if b)) u.registry (after_for s.keys u.registry sender Unregister) (change_for s.keys u.registry sender Unregister) =
     let P : Bool → Type 0 =
-    λ x. Becomes s.keys s.hosts sender (Some 0) never now never (told_if b) never u.registry (if x then without_registration u.registry sender else u.registry) (if x then change_on_unregister u.registry sender else no_change) in
+    λ x. Becomes s.keys s.hosts sender (Some 0) never now (tells_of_loss (told_if b)) u.registry (if x then without_registration u.registry sender else u.registry) (if x then change_on_unregister u.registry sender else no_change) in
     subst P (sym there) known in
-    good_ends s Unregister held sender standing u c (Some 0) never now never (told_if b) never change tt m refl refl
-    (record {
-      sender = does.sender;
-      removed = does.removed;
-      reservation = does.reservation ∙ leaves_it;
-      told_03 = does.told_03;
-      told_04 = λ r few. does.told_04 r few ∙ ap (λ x. told_if x r) tells;
-      told_05 = does.told_05;
-    })
+    good_ends s Unregister held sender standing u c (Some 0) never now (tells_of_loss (told_if b)) change tt m refl refl
+    (leaves change (Some 0) never left now (tells_of_loss (told_if b)) leaves_it (subst (λ x. Does change (Some 0) never left (tells_of_loss (told_if x))) tells does))
     so
 
 pub unregister_good : (hosts : ℕ) (held : Option Held) (sender : ℕ) (standing : Standing) (change : Transition) → is_unregistered standing ≡ false → is_held_by_all held ≡ false
-    → Does change (Some 0) never (number_of hosts (if holds_alone held sender then None else held)) never (told_if (holds_alone held sender && is_told_of_loss held)) never → HasRoom hosts (Good change)
+    → Does change (Some 0) never (number_of hosts (if holds_alone held sender then None else held)) (tells_of_loss (told_if (holds_alone held sender && is_told_of_loss held))) → HasRoom hosts (Good change)
     → AlwaysEnds hosts Unregister held sender standing (Good change)
 unregister_good hosts held sender standing change present other does room = record {
   ends = λ s u c alike m.
@@ -129,8 +122,8 @@ unregister_good hosts held sender standing change present other does room = reco
 
 -- of all registrants the sender goes: the reservation stays with the others, if there are any
 pub tell_unregistered : (hosts : ℕ) (held : Option Held) (sender : ℕ) (standing : Standing) (b d : Branch) (stays ends : Transition) → is_held_by_all held ≡ true → is_unregistered standing ≡ false
-    → Leaves b.region any any (Some is_of_registrant) → b.ending ≡ Good stays → Does stays (Some 0) never (number_of hosts held) never never never → HasRoom hosts (Good stays)
-    → Leaves d.region any (only 0) None → d.ending ≡ Good ends → Does ends (Some 0) never 0 never never never → HasRoom hosts (Good ends)
+    → Leaves b.region any any (Some is_of_registrant) → b.ending ≡ Good stays → Does stays (Some 0) never (number_of hosts held) tells_nobody → HasRoom hosts (Good stays)
+    → Leaves d.region any (only 0) None → d.ending ≡ Good ends → Does ends (Some 0) never 0 tells_nobody → HasRoom hosts (Good ends)
     → Tell hosts Unregister held sender standing (b ∷ d ∷ [])
 tell_unregistered hosts held sender standing b d stays ends all present leaves_b ends_b does_b room_b leaves_d ends_d does_d room_d =
     tell hosts Unregister held sender standing (b ∷ d ∷ [])

@@ -1,5 +1,5 @@
 -- Who has the key that a PREEMPT names, and what that makes of the command.
-use Rattle.pr_regions.proofs.Common.{◌≡◌, ℕ, zero, suc, ◌<◌, ◌≤◌, Bool, true, false, not, ◌≢◌, ◌⊎◌, List, length, get_or, is_some, if◌then◌else◌, ◌==◌, Some, None, Option, sym, refl, ap, ◌∙◌, subst, inl, inr, arith, false≢true, nat_tests, eqb_tells, Command, Kind, is_kind, ReplacesAll, preempt_case, held_by_rest, is_key, Hosts, nobody, Keys, without, hosts_with, is_empty, State, is_registered, key_of, new_reservation, Held, One, All, contains-nobody, get-without, UnitState, Scope, number_of, key_at, Registration, IsSo, HasNumber, Meets, Ends, Standing, Transition, Conflict, Good, Does, never, only, told_but, lost_if, is_named, eq-eqb}
+use Rattle.pr_regions.proofs.Common.{◌≡◌, ℕ, zero, suc, ◌<◌, ◌≤◌, Bool, true, false, not, ◌≢◌, ◌⊎◌, List, length, get_or, is_some, if◌then◌else◌, ◌==◌, Some, None, Option, sym, refl, ap, ◌∙◌, subst, inl, inr, arith, false≢true, nat_tests, eqb_tells, Command, Kind, is_kind, ReplacesAll, preempt_case, held_by_rest, is_key, Hosts, nobody, Keys, without, hosts_with, is_empty, State, is_registered, key_of, new_reservation, Held, One, All, contains-nobody, get-without, UnitState, Scope, number_of, key_at, Registration, IsSo, HasNumber, Meets, Ends, Standing, Transition, Conflict, Good, Does, only, told_but, lost_if, is_named, eq-eqb, tells_of_removal, tells_of_replacement}
 use Rattle.pr_unit.specs.declared.demand.Demand.TheVariants.{Preempt}
 use Rattle.std.specs.FinMap as map
 use Rattle.std.specs.FinSet as set
@@ -158,32 +158,32 @@ removes keys (Some (All t)) k nonzero other = ap (λ b. if b then ReplacesAll el
 -- the key is a single holder's
 pub replaced_ends : (s : Scope) (hosts j : ℕ) (t old : Kind) (h : ℕ) (held : Option Held) (sender : ℕ) (standing : Standing) (u : UnitState) (c : Command) (change : Transition) → HasNumber (Preempt j t)
     → Meets s (Preempt j t) held sender standing u c → s.hosts ≡ hosts → held ≡ Some (One old h) → key_of u.registry h ≡ Some (key_named s.keys j)
-    → Does change None (only j) (number_of hosts (Some (new_reservation t sender))) never (told_but (not (is_kind old t)) j) (only j) → Ends s sender (Good change) u c
+    → Does change None (only j) (number_of hosts (Some (new_reservation t sender))) (tells_of_replacement (told_but (not (is_kind old t)) j) (only j)) → Ends s sender (Good change) u c
 replaced_ends s hosts j t old h held sender standing u c change has m alike is key does =
     let k = key_named s.keys j in
     let keys = keys_of s j t held sender standing u c has m in
     let now = number_of s.hosts (Some (new_reservation t sender)) in
-    let tells = told_but (not (is_kind old t)) j in
+    let tells = tells_of_replacement (told_but (not (is_kind old t)) j) (only j) in
     let case : preempt_case u.registry.keys u.registry.held k ≡ ReplacesHolder old =
     ap (λ v. preempt_case u.registry.keys v k) (m.held ∙ is) ∙ ap (λ b. if b then ReplacesHolder old else RemovesKey) (ap (λ o. is_key o k) key ∙ eq-eqb k k refl) in
-    good_ends s (Preempt j t) held sender standing u c None (only j) now never tells (only j) change has m (somebodys u.registry.keys h k key) refl
-    (leaves change None (only j) (number_of hosts (Some (new_reservation t sender))) now never tells (only j) (ap (λ n. number_of n (Some (new_reservation t sender))) (sym alike)) does)
-    (in_case s.keys s.hosts sender None (only j) now never tells (only j) u.registry k t (ReplacesHolder old) case
+    good_ends s (Preempt j t) held sender standing u c None (only j) now tells change has m (somebodys u.registry.keys h k key) refl
+    (leaves change None (only j) (number_of hosts (Some (new_reservation t sender))) now tells (ap (λ n. number_of n (Some (new_reservation t sender))) (sym alike)) does)
+    (in_case s.keys s.hosts sender None (only j) now tells u.registry k t (ReplacesHolder old) case
     (on_preempt_holder s.keys s.hosts sender j k t old u.registry keys.once keys.fits keys.named))
 
 -- it is another key, which somebody has
 pub removed_ends : (s : Scope) (j : ℕ) (t : Kind) (held : Option Held) (sender : ℕ) (standing : Standing) (u : UnitState) (c : Command) (left : ℕ) (g : ℕ) (change : Transition) → HasNumber (Preempt j t)
     → Meets s (Preempt j t) held sender standing u c → IsNotHolders u.registry.keys u.registry.held (key_named s.keys j) → key_of u.registry g ≡ Some (key_named s.keys j)
     → left ≡ number_of s.hosts (held_by_rest (without u.registry.keys (hosts_with u.registry.keys (key_named s.keys j))) u.registry.held)
-    → Does change (lost_if (is_named standing)) (only j) left never never (only j) → Ends s sender (Good change) u c
+    → Does change (lost_if (is_named standing)) (only j) left (tells_of_removal (only j)) → Ends s sender (Good change) u c
 removed_ends s j t held sender standing u c left g change has m other key leaves_it does =
     let k = key_named s.keys j in
     let keys = keys_of s j t held sender standing u c has m in
     let to = lost_if (is_named standing) in
     let now = number_of s.hosts (held_by_rest (without u.registry.keys (hosts_with u.registry.keys k)) u.registry.held) in
-    good_ends s (Preempt j t) held sender standing u c to (only j) now never never (only j) change has m (somebodys u.registry.keys g k key) refl
-    (leaves change to (only j) left now never never (only j) leaves_it does)
-    (in_case s.keys s.hosts sender to (only j) now never never (only j) u.registry k t RemovesKey (removes u.registry.keys u.registry.held k keys.nonzero other)
+    good_ends s (Preempt j t) held sender standing u c to (only j) now (tells_of_removal (only j)) change has m (somebodys u.registry.keys g k key) refl
+    (leaves change to (only j) left now (tells_of_removal (only j)) leaves_it does)
+    (in_case s.keys s.hosts sender to (only j) now (tells_of_removal (only j)) u.registry k t RemovesKey (removes u.registry.keys u.registry.held k keys.nonzero other)
     (on_preempt_key s.keys s.hosts sender j k t u.registry (is_named standing) keys.once keys.fits keys.named keys.own))
 
 -- nobody has it

@@ -1,4 +1,4 @@
-use Rattle.pr_regions.proofs.Common.{Some, None, sym, ◌∙◌, arith, never, only}
+use Rattle.pr_regions.proofs.Common.{Some, None, sym, ◌∙◌, arith, only, tells_of_removal}
 use Rattle.pr_unit.specs.declared.demand.Demand.TheVariants.{Preempt}
 use Rattle.pr_regions.proofs.lemmas.Parts.Endings.{has_room}
 use Rattle.pr_regions.proofs.lemmas.Parts.Preemption.{own_unheld}
@@ -11,4 +11,4 @@ returns-then-is_named c =
     let j = p.key in
     rw c.requires (c.ending_everywhere.ensures s.hosts (Preempt j p.kind) None s.number s.standing
     (own_unheld s.hosts j p.kind s.number s.standing c.removal_change.result (p.some, p.most) (sym c.is_named.ensures ∙ c.if-is_named.true) c.removal_change.ensures
-    (has_room s.hosts c.removal_change.result (Some 0) (only j) 0 never never (only j) c.removal_change.ensures (omega arith) (omega arith))))
+    (has_room s.hosts c.removal_change.result (Some 0) (only j) 0 (tells_of_removal (only j)) c.removal_change.ensures (omega arith) (omega arith))))

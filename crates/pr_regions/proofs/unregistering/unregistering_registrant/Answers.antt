@@ -9,8 +9,8 @@ returns c =
     let none = c.change_to_reservation.ensures in
     rw c.two.ensures (tell_unregistered c.args.sender.hosts c.args.sender.held c.args.sender.number c.args.sender.standing _ _ _ _ c.requires.all c.requires.registered
     (record { to_holder = c.whole.ensures.to_holder; to_others = c.whole.ensures.to_others; tested = (keys_those c.every_key.result c.every_key.ensures.keys c.every_key.ensures.none) }) refl
-    (record { sender = refl; removed = stays.removed; reservation = stays.reservation; told_03 = stays.told_03; told_04 = stays.told_04; told_05 = stays.told_05 })
+    (record { sender = refl; removed = stays.removed; reservation = stays.reservation; told = stays.told })
     (omega arith, c.no_change.ensures.room.1)
     (record { to_holder = c.whole-2.ensures.to_holder; to_others = λ r few. c.only.ensures r; tested = c.whole-2.ensures.tested }) refl
-    (record { sender = refl; removed = none.removed; reservation = none.reservation; told_03 = none.told_03; told_04 = none.told_04; told_05 = none.told_05 })
+    (record { sender = refl; removed = none.removed; reservation = none.reservation; told = none.told })
     (omega arith, let is = none.reservation in omega arith))
