@@ -1,48 +1,43 @@
 //! Which arm takes a reply.
 
 ghost use Rattle.std.specs.Prelude.{◌≡◌, position};
-ghost use Rattle.pr_cdb.specs.declared.reply.Reply.{Reply};
+ghost use Rattle.pr_cdb.specs.declared.reply.Reply.{Reply as ReplyOf};
 ghost use Rattle.pr_domain.specs.Landings.{IsClass, IsLanding};
-ghost use Rattle.pr_domain.specs.inside.Reporting.{takes, sense_of, AreBlind};
+ghost use Rattle.pr_domain.specs.inside.Reporting.{takes, reply_in, AreBlind};
 
-use pr_cdb::Sense;
-use pr_cdb::codes::UNIT_ATTENTION;
+use arrayvec::ArrayVec;
+use pr_cdb::{Reply, Status};
 use pr_script::{Class, Landing, Test};
 
-// Whether the test takes replies of the class by status and sense alone. One that looks at data takes none so.
-fn is_taken_by(class: Class, test: Test) -> bool
-    ensures { result ≡ takes test class }
+// A reply of the class, without data.
+fn reply_in(class: Class) -> Reply
+    ensures { result ≡ reply_in class }
 {
-    match test {
-        Test::Good => class == Class::Good,
-        Test::Conflict => class == Class::Conflict,
-        Test::Busy => class == Class::Busy,
-        Test::Full => class == Class::Full,
-        Test::Attention => sense_in(class).is_some_and(|sense| sense.key == UNIT_ATTENTION),
-        Test::Sense(wanted) => sense_in(class) == Some(wanted),
-        _ => false,
+    let (status, sense) = match class {
+        Class::Good => (Status::Good, None),
+        Class::Conflict => (Status::Conflict, None),
+        Class::Busy => (Status::Busy, None),
+        Class::Full => (Status::TaskFull, None),
+        Class::Sense(sense) => (Status::CheckCondition, Some(sense)),
+    };
+    Reply {
+        status,
+        sense,
+        bytes: ArrayVec::new(),
     }
 }
 
-fn sense_in(class: Class) -> Option<Sense>
-    ensures { result ≡ sense_of class }
-{
-    match class {
-        Class::Good | Class::Conflict | Class::Busy | Class::Full => None,
-        Class::Sense(sense) => Some(sense),
-    }
-}
-
-// The first arm that takes them.
+// The first arm that takes such a reply by its status and its sense.
 pub(crate) fn first_arm(tests: &[Test], class: Class) -> Option<usize>
     ensures { result ≡ position (λ t. takes t class) tests.now }
 {
-    tests.iter().position(|test| is_taken_by(class, *test))
+    let reply = reply_in(class);
+    tests.iter().position(|test| test.matches(&reply))
 }
 
 /// Where a reply of this class goes on whose data no test looks at.
 pub(crate) fn landing_of(tests: &[Test], class: Class) -> Landing
-    ensures { (r : Reply) → IsClass r class → AreBlind tests.now class
+    ensures { (r : ReplyOf) → IsClass r class → AreBlind tests.now class
         → IsLanding tests.now r result }
 {
     match first_arm(tests, class) {

@@ -1,5 +1,5 @@
 -- What is found of each landing, and where the possibilities of a landing come from.
-use Rattle.std.specs.Prelude.{◌≡◌, ◌≢◌, ◌↔◌, ◌⊎◌, ℕ, zero, suc, ◌<◌, Bool, true, false, ◌==◌, ◌&&◌, not, nat_lt, List, Option, Some, None}
+use Rattle.std.specs.Prelude.{◌≡◌, ◌≢◌, ◌↔◌, ◌⊎◌, ℕ, zero, suc, ◌<◌, Bool, true, false, ◌==◌, ◌&&◌, not, nat_lt, List, [], Some, None}
 use Rattle.std.specs.FinSet as set
 use Rattle.std.specs.List.{All, slice_get}
 use Rattle.pr_cdb.specs.declared.command.Command.{Command}
@@ -13,8 +13,7 @@ use Rattle.pr_unit.specs.UnitStates.{UnitState, is_pending, is_any_pending, effe
 use Rattle.pr_unit.specs.Conduct.{command_conflicts, command_fault}
 use Rattle.pr_unit.specs.Replies.{good, check, conflict, busy, full, report, data_of}
 use Rattle.pr_script.specs.declared.script.Test.{Test}
-use Rattle.pr_script.specs.declared.script.Test.TheVariants as test
-use Rattle.pr_script.specs.Takes.{is_attention, is_sense}
+use Rattle.pr_script.specs.Takes.{matches}
 use Rattle.pr_script.specs.declared.landing.Landing.{Landing}
 use Rattle.pr_script.specs.declared.landing.Landing.TheVariants.{Arm, NoArm}
 use Rattle.pr_script.specs.declared.landing.Class.{Class}
@@ -36,68 +35,25 @@ use Rattle.pr_domain.specs.Landings.{IsLanding}
 
 -- ---- the arm for a reply whose data no test looks at
 
--- the test looks at the data of a reply
-abbrev pub looks : Test → Bool
-looks test.Good = false
-looks (test.GoodHas key) = true
-looks (test.GoodHeld key) = true
-looks test.GoodUnheld = true
-looks test.Conflict = false
-looks test.Busy = false
-looks test.Full = false
-looks test.Attention = false
-looks (test.Sense wanted) = false
+-- the test does not look at the data of a reply
+abbrev pub IsBlind : Test → Type 0
+IsBlind t = (r : Reply) (bytes : List ℕ) → matches t (record r { bytes = record { items = bytes } }) ≡ matches t r
 
-abbrev pub is_good_class : Class → Bool
-is_good_class Good = true
-is_good_class Conflict = false
-is_good_class Busy = false
-is_good_class Full = false
-is_good_class (WithSense sense) = false
-
-abbrev pub is_conflict_class : Class → Bool
-is_conflict_class Good = false
-is_conflict_class Conflict = true
-is_conflict_class Busy = false
-is_conflict_class Full = false
-is_conflict_class (WithSense sense) = false
-
-abbrev pub is_busy_class : Class → Bool
-is_busy_class Good = false
-is_busy_class Conflict = false
-is_busy_class Busy = true
-is_busy_class Full = false
-is_busy_class (WithSense sense) = false
-
-abbrev pub is_full_class : Class → Bool
-is_full_class Good = false
-is_full_class Conflict = false
-is_full_class Busy = false
-is_full_class Full = true
-is_full_class (WithSense sense) = false
-
-abbrev pub sense_of : Class → Option Sense
-sense_of Good = None
-sense_of Conflict = None
-sense_of Busy = None
-sense_of Full = None
-sense_of (WithSense sense) = Some sense
+-- a reply of the class, without data
+abbrev pub reply_in : Class → Reply
+reply_in Good = good []
+reply_in Conflict = conflict
+reply_in Busy = busy
+reply_in Full = full
+reply_in (WithSense sense) = check sense
 
 -- whether the test matches the replies of the class, where it does not look at their data
 abbrev pub takes : Test → Class → Bool
-takes test.Good class = is_good_class class
-takes (test.GoodHas key) class = false
-takes (test.GoodHeld key) class = false
-takes test.GoodUnheld class = false
-takes test.Conflict class = is_conflict_class class
-takes test.Busy class = is_busy_class class
-takes test.Full class = is_full_class class
-takes test.Attention class = is_attention (sense_of class)
-takes (test.Sense wanted) class = is_sense (sense_of class) wanted
+takes t class = matches t (reply_in class)
 
 -- none of the tests looks at the data of a reply of the class
 abbrev pub AreBlind : List Test → Class → Type 0
-AreBlind tests Good = All (λ t. looks t ≡ false) tests
+AreBlind tests Good = All IsBlind tests
 AreBlind tests Conflict = Unit {0}
 AreBlind tests Busy = Unit {0}
 AreBlind tests Full = Unit {0}

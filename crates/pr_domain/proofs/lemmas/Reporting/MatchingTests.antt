@@ -1,48 +1,33 @@
 -- Which test is the first that matches a reply, by the class of the reply.
-use Rattle.pr_domain.proofs.Common.{◌≡◌, false, ◌&&◌, List, sym, refl, ap, false≢true, Reply, Sense, matches, Test, first_test, IsClass, Class, Good, Conflict, Busy, Full}
+use Rattle.pr_domain.proofs.Common.{◌≡◌, ◌&&◌, List, [], sym, refl, ◌∙◌, Reply, Sense, matches, Test, first_test, IsClass, Class, Good, Conflict, Busy, Full}
 use Rattle.std.specs.List.{position}
-use Rattle.pr_cdb.specs.Statuses.{is_good_status, is_check_status, is_conflict_status, is_busy_status, is_full_status}
+use Rattle.pr_cdb.specs.Statuses.{is_check_status}
 use Rattle.pr_script.specs.declared.script.Test.TheVariants as test
 use Rattle.pr_script.specs.Takes.{is_attention, is_sense}
 use Rattle.pr_script.specs.declared.landing.Class.TheVariants.{Sense as WithSense}
 use Rattle.pr_regions.proofs.lemmas.Readings.ReservationArms.{position_alike}
-use Rattle.pr_domain.specs.inside.Reporting.{looks, takes, AreBlind}
+use Rattle.pr_domain.specs.inside.Reporting.{IsBlind, takes, AreBlind}
 
-matches_good : (t : Test) (r : Reply) → IsClass r Good → looks t ≡ false → matches t r ≡ takes t Good
-matches_good test.Good r is blind = ap is_good_status is
-matches_good test.Conflict r is blind = ap is_conflict_status is
-matches_good test.Busy r is blind = ap is_busy_status is
-matches_good test.Full r is blind = ap is_full_status is
-matches_good test.Attention r is blind = ap (λ s. is_check_status s && is_attention r.sense) is
-matches_good (test.Sense wanted) r is blind = ap (λ s. is_check_status s && is_sense r.sense wanted) is
-matches_good _ r is blind = absurd (false≢true (sym blind))
+matches_good : (t : Test) (r : Reply) → IsClass r Good → IsBlind t → matches t r ≡ takes t Good
+matches_good t r is blind = sym (blind r []) ∙ without t
+  where
+    without : (t : Test) → matches t (record r { bytes = record { items = [] } }) ≡ takes t Good
+    without test.Good = rw is refl
+    without _ = rw is refl
 
 matches_conflict : (t : Test) (r : Reply) → IsClass r Conflict → matches t r ≡ takes t Conflict
-matches_conflict test.Good r is = ap is_good_status is
-matches_conflict test.Conflict r is = ap is_conflict_status is
-matches_conflict test.Busy r is = ap is_busy_status is
-matches_conflict test.Full r is = ap is_full_status is
+matches_conflict test.Good r is = rw is refl
 matches_conflict _ r is = rw is refl
 
 matches_busy : (t : Test) (r : Reply) → IsClass r Busy → matches t r ≡ takes t Busy
-matches_busy test.Good r is = ap is_good_status is
-matches_busy test.Conflict r is = ap is_conflict_status is
-matches_busy test.Busy r is = ap is_busy_status is
-matches_busy test.Full r is = ap is_full_status is
+matches_busy test.Good r is = rw is refl
 matches_busy _ r is = rw is refl
 
 matches_full : (t : Test) (r : Reply) → IsClass r Full → matches t r ≡ takes t Full
-matches_full test.Good r is = ap is_good_status is
-matches_full test.Conflict r is = ap is_conflict_status is
-matches_full test.Busy r is = ap is_busy_status is
-matches_full test.Full r is = ap is_full_status is
+matches_full test.Good r is = rw is refl
 matches_full _ r is = rw is refl
 
 matches_sense : (t : Test) (r : Reply) (s : Sense) → IsClass r (WithSense s) → matches t r ≡ takes t (WithSense s)
-matches_sense test.Good r s is = ap is_good_status is.0
-matches_sense test.Conflict r s is = ap is_conflict_status is.0
-matches_sense test.Busy r s is = ap is_busy_status is.0
-matches_sense test.Full r s is = ap is_full_status is.0
 matches_sense test.Attention r s is = (λ i. is_check_status (is.0 i) && is_attention (is.1 i))
 matches_sense (test.Sense wanted) r s is = (λ i. is_check_status (is.0 i) && is_sense (is.1 i) wanted)
 matches_sense _ r s is = rw is.0 refl

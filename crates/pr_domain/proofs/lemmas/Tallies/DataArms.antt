@@ -1,12 +1,12 @@
 -- READ KEYS and READ RESERVATION: which arm takes their data.
-use Rattle.pr_domain.proofs.Common.{◌≡◌, ℕ, ◌<◌, ◌≤◌, true, false, ◌||◌, List, length, IfSome, IfNone, ◌==◌, Some, None, All, Contains, Option, sym, refl, ap, ◌∙◌, subst, arith, false≢true, and_parts, nat_tests, slice_get-get_or, has, BitSet, Command, State, key_of, good, data_of, UnitState, is_written_key, test_fits, matches, Test, view_in, Scope, Shows, Possibilities, one_registration, IsPlace, IsAt, purpose_of, is_refused, first_test, standing_of, Place, Branch, Reading, Transition, same_reservation, arm_of, IsRight, HasBoth, IsOwners, IsReadAt, IsReadFirst, MOST_ARMS}
+use Rattle.pr_domain.proofs.Common.{◌≡◌, ℕ, ◌<◌, ◌≤◌, true, false, ◌||◌, List, length, IfSome, IfNone, ◌==◌, Some, None, All, Contains, Option, sym, refl, ap, ◌∙◌, subst, arith, false≢true, and_parts, nat_tests, slice_get-get_or, has, BitSet, Command, State, key_of, good, data_of, UnitState, test_fits, matches, Test, view_in, Scope, Shows, Possibilities, one_registration, IsPlace, IsAt, purpose_of, is_refused, first_test, standing_of, Place, Branch, Reading, Transition, same_reservation, arm_of, IsRight, HasBoth, IsOwners, IsReadAt, IsReadFirst, MOST_ARMS}
 use Rattle.std.proofs.Common.{position}
-use Rattle.std.proofs.lemmas.Bool.{or_parts}
 use Rattle.std.proofs.lemmas.List.Elements.{All-weaker}
 use Rattle.std.proofs.lemmas.List.Quantifiers.{position-Some}
 use Rattle.pr_cdb.specs.declared.command.Command.TheVariants as command
 use Rattle.pr_script.specs.declared.script.Test.TheVariants as test
-use Rattle.pr_script.specs.Grammar.{is_read_keys, is_read_reservation, is_declared}
+use Rattle.pr_script.specs.Grammar.{is_read_keys, is_read_reservation, has_sense_digit, stands_under}
+use Rattle.pr_script.proofs.lemmas.Takes.AlikeReplies.{unread_alike}
 use Rattle.pr_script.specs.declared.landing.Class.TheVariants as class
 use Rattle.pr_unit.specs.declared.demand.Demand.TheVariants.{Look}
 use Rattle.pr_regions.specs.declared.region.Ending.TheVariants as ending
@@ -16,7 +16,7 @@ use Rattle.pr_regions.specs.Regions.{Ends, Meets, IsInRegion}
 use Rattle.pr_regions.proofs.lemmas.Parts.Endings.{same_ends}
 use Rattle.pr_regions.specs.Gathering.{IsProper}
 use Rattle.pr_domain.specs.inside.Tallies.{way_of, IsRightReading, AreRightReadings}
-use Rattle.pr_domain.specs.inside.Reporting.{looks, takes, AreBlind}
+use Rattle.pr_domain.specs.inside.Reporting.{IsBlind, takes, AreBlind}
 use Rattle.pr_domain.proofs.lemmas.Reporting.MatchingTests.{first_of_class}
 use Rattle.pr_regions.proofs.lemmas.Portions.GatheredStates.{number_at}
 use Rattle.pr_domain.proofs.lemmas.Tallies.Requests.{only_uniform, sender_is}
@@ -115,16 +115,7 @@ readings_cover s keys c tests view place r readings owners are u shown both =
 
 -- no test looks at the data of a command that returns none of it
 blind : (keys : List ℕ) (c : Command) (tests : List Test) → (is_read_keys c || is_read_reservation c) ≡ false → All (λ t. test_fits keys c t ≡ true) tests → AreBlind tests class.Good
-blind keys c tests none fit = All-weaker (λ t. test_fits keys c t ≡ true) (λ t. looks t ≡ false) each tests fit
-  where
-    neither : (is_read_keys c ≡ false) × (is_read_reservation c ≡ false)
-    neither = or_parts (is_read_keys c) (is_read_reservation c) none
-
-    each : (t : Test) → test_fits keys c t ≡ true → looks t ≡ false
-    each (test.GoodHas key) is = absurd (false≢true (sym neither.0 ∙ (and_parts (is_read_keys c) (is_declared keys key) is).0))
-    each (test.GoodHeld key) is = absurd (false≢true (sym neither.1 ∙ (and_parts (is_read_reservation c) (is_written_key keys key) is).0))
-    each test.GoodUnheld is = absurd (false≢true (sym neither.1 ∙ (and_parts (is_read_reservation c) true is).0))
-    each _ is = refl
+blind keys c tests none fit = All-weaker (λ t. test_fits keys c t ≡ true) IsBlind (λ t is. unread_alike c t none (and_parts (stands_under c t) _ (and_parts (has_sense_digit t) _ is).1).0) tests fit
 
 pub arm_taken : (keys : List ℕ) (c : Command) (tests : List Test) (arm : Option ℕ) (way : ℕ) (u : State) → (is_read_keys c || is_read_reservation c) ≡ false → All (λ t. test_fits keys c t ≡ true) tests
     → length tests ≤ MOST_ARMS → arm ≡ position (λ t. takes t class.Good) tests → (IfSome arm (λ n. n < MOST_ARMS) → way ≡ way_of arm) → IfNone arm (way ≡ 0)
