@@ -33,30 +33,24 @@ adds_after s view old after new place senders region change is joined = record {
 
 -- ---- the elements of a list, one after another
 
-pub among_wider : {X : Type 0} (n : ℕ) (xs : List X) (holds : X → Type 0) → Among n xs holds → Among (n + 1) xs holds
-among_wider n xs holds among = record {
-  element = among.element;
-  place = among.place;
-  below = (let below = among.below in omega arith);
-  there = among.there;
-  is = among.is;
-}
+module _ {X : Type 0} (P : X → Type 0) (xs : List X) where
+  pub among_there : (n : ℕ) (x : X) → x ≡ slice_index_or xs n x → Among n xs P ⊎ P x → Among (n + 1) xs P
+  among_there n x read (inl before) =
+      record { element = before.element; place = before.place; below = (let below = before.below in omega arith); there = before.there; is = before.is }
+  among_there n x read (inr here) = record { element = x; place = n; below = omega arith; there = sym read; is = here }
 
-pub among_last : {X : Type 0} (n : ℕ) (xs : List X) (x : X) (holds : X → Type 0) → slice_index_or xs n x ≡ x → holds x → Among (n + 1) xs holds
-among_last n xs x holds there is = record { element = x; place = n; below = omega arith; there = there; is = is }
-
-pub among_either : {X : Type 0} (n : ℕ) (xs : List X) (x : X) (holds : X → Type 0) → n < length xs → slice_index_or xs n x ≡ x → Among (n + 1) xs holds → Among n xs holds ⊎ holds x
-among_either n xs x holds small there among = at (eqb_tells among.place n)
-  where
-    at : (((among.place == n) ≡ true) × (among.place ≡ n)) ⊎ (((among.place == n) ≡ false) × (among.place ≢ n)) → Among n xs holds ⊎ holds x
-    at (inl same) = inr (subst holds (sym among.there ∙ ap (λ k. slice_index_or xs k among.element) same.1 ∙ get_or_default xs n among.element x small ∙ there) among.is)
-    at (inr other) = inl (record {
-      element = among.element;
-      place = among.place;
-      below = (let below = among.below in let differs = other.1 in omega arith);
-      there = among.there;
-      is = among.is;
-    })
+  pub among_back : (n : ℕ) (x : X) → n < length xs → x ≡ slice_index_or xs n x → Among (n + 1) xs P → Among n xs P ⊎ P x
+  among_back n x small read among = at (eqb_tells among.place n)
+    where
+      at : (((among.place == n) ≡ true) × (among.place ≡ n)) ⊎ (((among.place == n) ≡ false) × (among.place ≢ n)) → Among n xs P ⊎ P x
+      at (inl same) = inr (subst P (sym among.there ∙ ap (λ k. slice_index_or xs k among.element) same.1 ∙ get_or_default xs n among.element x small ∙ sym read) among.is)
+      at (inr other) = inl (record {
+        element = among.element;
+        place = among.place;
+        below = (let below = among.below in let differs = other.1 in omega arith);
+        there = among.there;
+        is = among.is;
+      })
 
 -- one element more
 pub adds_element : {X : Type 0} (s : Scope) (p q r : Possibilities) (n : ℕ) (xs : List X) (x : X) (leads : X → UnitState → UnitState → Type 0) (leaves : X → Item → Type 0)
@@ -66,9 +60,9 @@ pub adds_element : {X : Type 0} (s : Scope) (p q r : Possibilities) (n : ℕ) (x
 adds_element s p q r n xs x leads leaves small there before now =
     adds_both s p q r (λ u w. Among n xs (λ y. leads y u w)) (leads x) (λ u w. Among (n + 1) xs (λ y. leads y u w))
     (λ i. Among n xs (λ y. leaves y i)) (leaves x) (λ i. Among (n + 1) xs (λ y. leaves y i)) before now
-    (λ u w among. among_either n xs x (λ y. leads y u w) small there among)
-    (λ i among. among_wider n xs (λ y. leaves y i) among)
-    (λ i is. among_last n xs x (λ y. leaves y i) there is)
+    (λ u w among. among_back (λ y. leads y u w) xs n x small (sym there) among)
+    (λ i among. among_there (λ y. leaves y i) xs n x (sym there) (inl among))
+    (λ i is. among_there (λ y. leaves y i) xs n x (sym there) (inr is))
 
 -- ---- a branch
 

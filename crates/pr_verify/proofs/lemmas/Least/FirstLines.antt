@@ -1,5 +1,6 @@
 -- The first line at which something is lacking: of two kinds of things, and of the first elements of a list.
 use Rattle.pr_verify.proofs.Common.{◌≡◌, ℕ, ◌+◌, ◌<◌, ◌≤◌, min, ◌⊎◌, List, length, slice_index_or, Some, None, Contains, Option, sym, refl, ap, ◌∙◌, subst, inl, inr, arith, cases_lt, cases_order, cases_eq, get_or_default, Among, IsFirst, IsLeast, least, EachOf, IsLeastAmong}
+use Rattle.pr_interference.proofs.lemmas.Interfering.Additions.{among_there}
 
 -- ---- of two kinds
 
@@ -28,21 +29,6 @@ least-none (Some line) = refl
 -- ---- of the first elements
 
 module _ {X : Type 0} (P : X → Type 0) (xs : List X) where
-  -- one more element
-  pub among_there : (n : ℕ) (x : X) → n < length xs → x ≡ slice_index_or xs n x → Among n xs P ⊎ P x → Among (n + 1) xs P
-  among_there n x small read (inl before) =
-      record { element = before.element; place = before.place; below = (let e = before.below in let o : before.place < n + 1 = omega arith in o); there = before.there; is = before.is }
-  among_there n x small read (inr here) = record { element = x; place = n; below = omega arith; there = sym read; is = here }
-
-  pub among_back : (n : ℕ) (x : X) → n < length xs → x ≡ slice_index_or xs n x → Among (n + 1) xs P → Among n xs P ⊎ P x
-  among_back n x small read one = at (cases_eq one.place n)
-    where
-      at : (one.place ≡ n) ⊎ (one.place ≡ n → ⊥) → Among n xs P ⊎ P x
-      at (inl same) =
-          inr (subst P (sym (read ∙ ap (λ k. slice_index_or xs k x) (sym same) ∙ get_or_default xs one.place x one.element (let e = one.below in omega arith) ∙ one.there)) one.is)
-      at (inr other) =
-          inl (record { element = one.element; place = one.place; below = (let e = one.below in let o : one.place < n = omega (arith, cases_order one.place n) in o); there = one.there; is = one.is })
-
   pub each_none : EachOf 0 xs P
   each_none k d small = absurd (omega arith)
 
@@ -59,7 +45,7 @@ module _ {X : Type 0} (Has Lacks : X → ℕ → Type 0) (xs : List X) where
   least_more n x a b small read before here =
       least_as (λ line. EachOf n xs (λ e. Has e line) × Has x line) (λ line. Among n xs (λ e. Lacks e line) ⊎ Lacks x line)
       (λ line. EachOf (n + 1) xs (λ e. Has e line)) (λ line. Among (n + 1) xs (λ e. Lacks e line)) (least a b)
-      (λ line both. each_more (λ e. Has e line) xs n x small read both.0 both.1) (λ line. among_there (λ e. Lacks e line) xs n x small read)
+      (λ line both. each_more (λ e. Has e line) xs n x small read both.0 both.1) (λ line. among_there (λ e. Lacks e line) xs n x read)
       (least_either (λ line. EachOf n xs (λ e. Has e line)) (λ line. Among n xs (λ e. Lacks e line)) (Has x) (Lacks x) a b before here)
 
   -- of one more that lacks nothing

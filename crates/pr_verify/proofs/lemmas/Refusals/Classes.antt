@@ -3,7 +3,7 @@ use Rattle.pr_verify.proofs.Common.{◌≡◌, ℕ, ◌+◌, ◌<◌, ◌≤◌,
 use Rattle.std.proofs.lemmas.Bool.{leb-false}
 use Rattle.pr_sets.specs.declared.view_set.ViewSet.{Ghosts as ViewSet}
 use Rattle.pr_verify.specs.inside.Reviewing.{IsFirstClass, earlier, earlier_from}
-use Rattle.pr_verify.proofs.lemmas.Least.FirstLines.{among_there, among_back}
+use Rattle.pr_interference.proofs.lemmas.Interfering.Additions.{among_there, among_back}
 
 -- ---- the first by number
 
@@ -20,7 +20,7 @@ module _ {S : Type 0} {sets : ViewSet S} (xs : List (Landing × ViewOf S sets)) 
   unarmed_none class one late = let e = one.below in absurd (omega arith)
 
   more : (n : ℕ) (x : Landing × ViewOf S sets) (class : Class) → n < length xs → x ≡ slice_index_or xs n x → IsUnarmed n xs class ⊎ (x.0 ≡ NoArm class) → IsUnarmed (n + 1) xs class
-  more n x class small read = among_there (λ o. o.0 ≡ NoArm class) xs n x small read
+  more n x class small read = among_there (λ o. o.0 ≡ NoArm class) xs n x read
 
   back : (n : ℕ) (x : Landing × ViewOf S sets) (class : Class) → n < length xs → x ≡ slice_index_or xs n x → IsUnarmed (n + 1) xs class → IsUnarmed n xs class ⊎ (x.0 ≡ NoArm class)
   back n x class small read = among_back (λ o. o.0 ≡ NoArm class) xs n x small read

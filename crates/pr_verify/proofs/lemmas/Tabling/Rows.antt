@@ -15,7 +15,7 @@ use Rattle.pr_verify.specs.Tables.{TakesArm, IsTable, AreTables}
 use Rattle.pr_views.specs.declared.table.Table.{Table as KeptTable}
 use Rattle.pr_verify.proofs.lemmas.Reviewing.Findings.{place_lines}
 use Rattle.pr_verify.proofs.lemmas.Reviewing.FittingPlaces.{IsHere, shown_here, shown_there, answer_own, answer_host, lacks_arm, lacking_listed}
-use Rattle.pr_verify.proofs.lemmas.Least.FirstLines.{among_back}
+use Rattle.pr_interference.proofs.lemmas.Interfering.Additions.{among_back}
 use Rattle.pr_verify.proofs.lemmas.Rooms.MappedLists.{mapped, unmapped}
 
 -- ---- lists that rise
