@@ -29,7 +29,7 @@ pub use Rattle.pr_script.specs.Grammar.{is_written_key, is_written, test_fits}
 pub use Rattle.pr_script.specs.Takes.{matches}
 pub use Rattle.pr_script.specs.declared.script.Test.{Test}
 pub use Rattle.pr_script.specs.declared.landing.Class.{Class}
-pub use Rattle.pr_script.specs.declared.landing.Class.TheVariants.{Good, Conflict, Busy, Full}
+pub use Rattle.pr_script.specs.declared.landing.Class.TheVariants.{Good}
 pub use Rattle.pr_script.specs.declared.landing.Landing.{Landing}
 pub use Rattle.pr_roles.specs.DeclaredRefusals.{Answered}
 pub use Rattle.pr_roles.specs.Fitting.{is_reservation, AreDeclared}

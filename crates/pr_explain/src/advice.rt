@@ -104,10 +104,7 @@ fn arms_wanted(unarmed: &[Class]) -> usize {
 }
 
 fn is_attention(class: Class) -> bool {
-    match class {
-        Class::Sense(sense) => sense.key == UNIT_ATTENTION,
-        Class::Good | Class::Conflict | Class::Busy | Class::Full => false,
-    }
+    matches!(class, Class::Sense(sense) if sense.key == UNIT_ATTENTION)
 }
 
 // The arms that are missing, where the send can't have so many.
@@ -181,7 +178,7 @@ that is held, 5/26/00 a PREEMPT of the key 0 where not all registrants hold.\n",
             writer,
             b"Its reservation key is 0 (--param-rk), with which nobody is registered: it never ends GOOD.\n",
         ),
-        Class::Good | Class::Conflict | Class::Busy | Class::Full | Class::Sense(_) => put(
+        _ => put(
             writer,
             b"If such a reply seems impossible, look at the roles of the others: one of them may permit more
 than you think.\n",

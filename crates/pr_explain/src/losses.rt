@@ -72,14 +72,8 @@ pub(crate) fn told_behind(breach: &Breach, host: u8, index: usize) -> Option<(us
 }
 
 fn tells(reply: &Reply) -> bool {
-    match reply.status {
-        Status::Conflict => true,
-        Status::CheckCondition => match reply.sense {
-            Some(sense) => sense.key == UNIT_ATTENTION && sense.asc == PREEMPTED,
-            None => false,
-        },
-        Status::Good | Status::Busy | Status::TaskFull => false,
-    }
+    reply.status == Status::Conflict
+        || reply.sense.is_some_and(|sense| sense.key == UNIT_ATTENTION && sense.asc == PREEMPTED)
 }
 
 /// Who sent this item of the run, and which command it is.

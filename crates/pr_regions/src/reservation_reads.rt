@@ -2,8 +2,6 @@
 
 ghost use Rattle.std.specs.Prelude.{◌≡◌, ◌≤◌, Some, length, true, position};
 ghost use Rattle.std.specs.List.{All};
-ghost use Rattle.pr_cdb.specs.declared.command.Kind.{Kind as KindOf};
-ghost use Rattle.pr_cdb.specs.declared.command.Command.{Command as CommandOf};
 ghost use Rattle.pr_roles.specs.declared.limits.TheConstants.{MOST_KEYS};
 ghost use Rattle.pr_regions.specs.Readings.{AreReadingsOfAny, IsProperReading};
 ghost use Rattle.pr_regions.specs.inside.Reads.{passes_held, read_reservation, AreReadingsByHolder, IsEverywhere, TestsFit};
@@ -25,12 +23,7 @@ fn passes(key: Option<u64>, test: Test) -> bool
         Test::Good => true,
         Test::GoodHeld(held) => is_key(key, held),
         Test::GoodUnheld => key.is_none(),
-        Test::GoodHas(_)
-        | Test::Conflict
-        | Test::Busy
-        | Test::Full
-        | Test::Attention
-        | Test::Sense(_) => false,
+        _ => false,
     }
 }
 

@@ -155,8 +155,7 @@ pub fn stands_under(command: Command, test: Test) -> bool
     match test {
         Test::GoodHas(_) => matches!(command, Command::ReadKeys { .. }),
         Test::GoodHeld(_) | Test::GoodUnheld => matches!(command, Command::ReadReservation { .. }),
-        Test::Good | Test::Conflict | Test::Busy | Test::Full | Test::Attention | Test::Sense(_) =>
-            true,
+        _ => true,
     }
 }
 

@@ -183,7 +183,7 @@ fn sense_under(status: Status, bytes: &[u8]) -> Option<Option<Sense>>
 {
     match status {
         Status::CheckCondition => Some(Some(sense_of(bytes)?)),
-        Status::Good | Status::Conflict | Status::Busy | Status::TaskFull => no_sense_in(bytes),
+        _ => no_sense_in(bytes),
     }
 }
 

@@ -180,10 +180,7 @@ fn are_in_range<S: ViewSet>(outcomes: &[(Landing, ViewOf<S>)])
 fn is_in_range(class: Class)
     ensures { IsInRange class }
 {
-    match class {
-        Class::Good | Class::Conflict | Class::Busy | Class::Full => {}
-        Class::Sense(sense) => {
-            let _ = (sense.key, sense.asc, sense.ascq);
-        }
+    if let Class::Sense(sense) = class {
+        let _ = (sense.key, sense.asc, sense.ascq);
     }
 }

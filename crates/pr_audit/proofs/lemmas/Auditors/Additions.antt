@@ -1,5 +1,6 @@
 -- The items that some event adds to a world are just those that may come next.
 use Rattle.pr_audit.proofs.Common.{◌≡◌, ℕ, ◌<◌, ◌≤◌, Bool, true, false, List, [], ◌∷◌, ◌++◌, length, get_or, IsTrue, slice_get, slice_set, Some, None, Option, option_map, sym, refl, ap, ◌∙◌, subst, arith, option_map_or, map-set_same, false≢true, length-map, slice_get-map, slice_get-get_or, spelling, Command, Reply, Request, Plain, UnitState, ready, Answers, may_come, Task, Scripted, Planned, Nexus, role, Scenario, Control, Going, Trapped, Free, standing_of, control_after, World, control, entry_of, Event, Host, Guest, UnitReset, is_guest_task, Happens, Entry, How, Item, Sent, Reset, Adds, IsTried, is_free, ActFor, is_planned, IsJudged}
+use Rattle.std.proofs.Common.{◌||◌}
 use Rattle.std.proofs.lemmas.List.{append_cancel_left}
 use Rattle.std.proofs.lemmas.Option.{slice_get_past}
 use Rattle.pr_cdb.specs.declared.reply.Status.{Status}
@@ -71,14 +72,15 @@ adds_by so s w e Free after v is guest room may =
 
 -- ---- what an event adds may come
 
-by_unit : (t : Status) → is_busy_status t ≡ false → is_full_status t ≡ false → how.Plain ≡ how_of t
-by_unit status.Busy busy full = absurd (false≢true (sym busy))
-by_unit status.TaskFull busy full = absurd (false≢true (sym full))
-by_unit _ busy full = refl
+by_unit : (t : Status) → (is_busy_status t || is_full_status t) ≡ false → how.Plain ≡ how_of t
+by_unit status.Good served = refl
+by_unit status.CheckCondition served = refl
+by_unit status.Conflict served = refl
+by_unit _ served = absurd (false≢true (sym served))
 
 -- the status tells how a command was answered
 told_how : (so : How) (u : UnitState) (h : ℕ) (q : Request) (r : Reply) (v : UnitState) → Answers so u h q r v → so ≡ how_of r.status
-told_how how.Plain u h q r v step = let never = steps_are_never_busy u h q r v step in by_unit r.status never.0 never.1
+told_how how.Plain u h q r v step = let never = steps_are_never_busy u h q r v step in by_unit r.status (λ i. never.0 i || never.1 i)
 told_how _ u h q r v refused = ap (λ (x : Reply). how_of x.status) (sym refused.0)
 
 -- the entry may come, and leads to this world; who sends what it likes is a guest

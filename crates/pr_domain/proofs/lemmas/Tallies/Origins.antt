@@ -1,5 +1,5 @@
 -- Where the possibilities of each landing come from.
-use Rattle.pr_domain.proofs.Common.{◌≡◌, ℕ, ◌-◌, ◌<◌, true, ◌⊎◌, ◌↔◌, List, Some, None, Option, sym, refl, ap, ◌∙◌, subst, inl, inr, same_Some, has, BitSet, Command, Reply, Plain, code_of, Attention, State, key_of, Step, UnitState, IsWellFormed, effect, is_written, Test, view_in, Scope, number_of, Item, Registration, Reservation, Attentions, IsSo, View, IsPossible, Shows, Possibilities, first_test, IsClass, IsLanding, Class, Good, Conflict, Busy, Full, Landing, Ending, Reports, Conflicts, Fails, EndsGood, Refuses, Ends, LandsBy, IsOfWay, IsRegistered, has_part}
+use Rattle.pr_domain.proofs.Common.{◌≡◌, ℕ, ◌-◌, ◌<◌, true, ◌⊎◌, ◌↔◌, List, Some, None, Option, sym, refl, ap, ◌∙◌, subst, inl, inr, same_Some, has, BitSet, Command, Reply, Plain, code_of, Attention, State, key_of, Step, UnitState, IsWellFormed, effect, is_written, Test, view_in, Scope, number_of, Item, Registration, Reservation, Attentions, IsSo, View, IsPossible, Shows, Possibilities, first_test, IsClass, IsLanding, Class, Good, Landing, Ending, Reports, Conflicts, Fails, EndsGood, Refuses, Ends, LandsBy, IsOfWay, IsRegistered, has_part}
 use Rattle.std.proofs.Common.{◌^◌, bit_and}
 use Rattle.pr_cdb.specs.declared.reply.Status.{Status}
 use Rattle.pr_cdb.specs.declared.reply.Status.TheVariants as status
@@ -7,7 +7,7 @@ use Rattle.pr_cdb.specs.Ranges.{Fits as FitsCommand}
 use Rattle.pr_attention.proofs.lemmas.Bits.{flag_of, codes_of-without_flag, without_flag-lt}
 use Rattle.pr_unit.proofs.lemmas.Steps.WellFormedSteps.{well_formed-step, hosts-step}
 use Rattle.pr_script.specs.declared.landing.Landing.TheVariants.{Arm, NoArm}
-use Rattle.pr_script.specs.declared.landing.Class.TheVariants.{Sense as WithSense}
+use Rattle.pr_script.specs.declared.landing.Class.TheVariants.{Conflict, Busy, Full, Sense as WithSense}
 use Rattle.pr_domain.proofs.lemmas.Reporting.Ends.{steps_or_stays}
 use Rattle.pr_domain.proofs.lemmas.Reporting.OwnerStates.{after_reported, untold_pending, IsNumbered, numbered_after}
 

@@ -96,10 +96,6 @@ module _ (word items : List ℕ) (pairs : List (List ℕ)) (i : ℕ) (cut : pair
 
 -- ---- how many there are
 
-bytes_or : Option (List ℕ) → List ℕ
-bytes_or None = []
-bytes_or (Some bytes) = bytes
-
 pairs_length : (word bs : List ℕ) → pairs_in word ≡ Some bs → length word ≡ 2 * length bs
 pairs_length [] bs is = omega (arith, ap length (same_Some _ _ is))
 pairs_length (d ∷ []) bs is = let bad : None ≡ Some bs = is in cc

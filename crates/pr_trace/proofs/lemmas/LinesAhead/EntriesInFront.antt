@@ -53,9 +53,6 @@ at_most n h = grind (arith, nat_tests)
 below : (n : ℕ) → n ≤ MOST_LATER_LINES → (n ≡ MOST_LATER_LINES → ⊥) → nat_le MOST_LATER_LINES n ≡ false
 below n h k = lt-leb MOST_LATER_LINES n (omega arith)
 
-too_long : (n : ℕ) → MOST_LINE_BYTES < n → nat_le n MOST_LINE_BYTES ≡ false
-too_long n h = grind (arith, nat_tests)
-
 -- ---- the first line
 
 unequal : (l word : List ℕ) → length word < length l → bytes_eq l word ≡ false

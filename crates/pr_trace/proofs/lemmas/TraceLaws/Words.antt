@@ -3,7 +3,7 @@ use Rattle.pr_trace.proofs.Common.{◌≡◌, ℕ, zero, suc, ◌+◌, ◌/◌, 
 use Rattle.std.proofs.lemmas.Bool.{le-leb, lt-leb, lt-ltb}
 use Rattle.pr_cdb.specs.declared.reply.Sense.{Sense}
 use Rattle.pr_cdb.specs.declared.reply.Status.{Status}
-use Rattle.pr_cdb.specs.declared.reply.Status.TheVariants.{Good, CheckCondition, Conflict, Busy, TaskFull}
+use Rattle.pr_cdb.specs.declared.reply.Status.TheVariants.{Good, CheckCondition}
 use Rattle.pr_cdb.specs.Requests.{AreBytes}
 use Rattle.pr_cdb.specs.ReplyData.{sense_bytes}
 use Rattle.pr_cdb.proofs.lemmas.ReplyRoundTrip.{sense_in-sense_bytes}
@@ -70,12 +70,10 @@ status_back version Good h = rw h refl
 status_back version _ h = rw h refl
 
 pub sense_back : (t : Status) (s : Option Sense) → HasSense t s → sense_under t (sense_data s) ≡ Some s
-sense_back Good None h = refl
 sense_back CheckCondition (Some s) h = rw (sense_in-sense_bytes s h.0, same_bytes (sense_bytes s)) refl
-sense_back Conflict None h = refl
-sense_back Busy None h = refl
-sense_back TaskFull None h = refl
-sense_back _ _ h = absurd h
+sense_back CheckCondition None h = absurd h
+sense_back _ None h = refl
+sense_back _ (Some s) h = absurd h
 
 -- each is a byte
 abbrev pub EachByte : List ℕ → Type 0
@@ -97,12 +95,10 @@ sense_each s h k =
     (omega arith, (omega arith, (key, four_zeros (0x0a ∷ 0 ∷ 0 ∷ 0 ∷ 0 ∷ codes_on) (omega arith, four_zeros codes_on (h, (k, four_zeros [] tt))))))
 
 pub data_are_bytes : (t : Status) (s : Option Sense) → HasSense t s → AreBytes (sense_data s)
-data_are_bytes Good None h = are_bytes [] tt
 data_are_bytes CheckCondition (Some s) h = are_bytes (sense_bytes s) (sense_each s h.1 h.2)
-data_are_bytes Conflict None h = are_bytes [] tt
-data_are_bytes Busy None h = are_bytes [] tt
-data_are_bytes TaskFull None h = are_bytes [] tt
-data_are_bytes _ _ h = absurd h
+data_are_bytes CheckCondition None h = absurd h
+data_are_bytes _ None h = are_bytes [] tt
+data_are_bytes _ (Some s) h = absurd h
 
 pub data_short : (s : Option Sense) → length (sense_data s) ≤ 18
 unfolding sense_bytes
