@@ -55,9 +55,9 @@ free_or j r = r == j || r == 0
 abbrev pub told_but : Bool → ℕ → ℕ → Bool
 told_but b j r = b && another j r
 
--- whoever ends all registrations tells these that reservations were preempted
-abbrev pub tells_of_ending : (ℕ → Bool) → Audience
-tells_of_ending those = audience those never never
+-- CLEAR tells these that reservations were preempted
+abbrev pub tells_of_clearing : (ℕ → Bool) → Audience
+tells_of_clearing those = audience those never never
 
 -- whoever loses one tells these that it was released
 abbrev pub tells_of_loss : (ℕ → Bool) → Audience

@@ -16,7 +16,7 @@ use Rattle.pr_registry.proofs.lemmas.Sets.{get-without, contains-hosts_with, key
 use Rattle.pr_roles.specs.Keys.{key_at}
 use Rattle.pr_views.proofs.lemmas.Possibilities.Numbers.{same_registration}
 use Rattle.pr_regions.specs.Transitions.{never, Audience, tells_nobody}
-use Rattle.pr_regions.specs.inside.Parts.{is_of_registrant, told_if, told_but, tells_of_ending, tells_of_loss, tells_of_removal, tells_of_replacement, lost_if}
+use Rattle.pr_regions.specs.inside.Parts.{is_of_registrant, told_if, told_but, tells_of_clearing, tells_of_loss, tells_of_removal, tells_of_replacement, lost_if}
 use Rattle.pr_regions.proofs.lemmas.Showing.Numbers.{AreDistinct}
 use Rattle.pr_regions.proofs.lemmas.Purposes.Conduct.{after_for, change_for}
 use Rattle.pr_regions.proofs.lemmas.Regions.ChangedStates.{Is, then_in}
@@ -221,7 +221,7 @@ module _ (s : Scope) (from : ℕ) (reach : Reach) (u : UnitState) where
     pub clear_within : has reach.given 0 ≡ true → HasEveryKey reach.removed → has_wide reach.reservations 0 ≡ true → HasEveryKey reach.told_03
         → IsWithin s from reach u (then_in u (after_clear u.registry) (change_on_clear u.registry from))
     clear_within gives removes none tells =
-        within_becomes s from reach u (after_clear u.registry) (change_on_clear u.registry from) (Some 0) is_of_registrant 0 (tells_of_ending is_of_registrant) few apart (on_clear s.keys s.hosts from u.registry)
+        within_becomes s from reach u (after_clear u.registry) (change_on_clear u.registry from) (Some 0) is_of_registrant 0 (tells_of_clearing is_of_registrant) few apart (on_clear s.keys s.hosts from u.registry)
         (record {
           given = λ i is. let same : 0 ≡ i = cc in subst (λ n. has reach.given n ≡ true) same gives;
           removed = goes removes;

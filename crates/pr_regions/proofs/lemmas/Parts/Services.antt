@@ -6,7 +6,7 @@ use Rattle.pr_registry.specs.Registrations.{is_holder_of, is_for_registrants}
 use Rattle.pr_registry.specs.Changes.{is_held_as, conflicts_with_reserve, is_released}
 use Rattle.pr_registry.specs.Effects.{held_or, with_reservation, after_release}
 use Rattle.pr_unit.specs.Conduct.{release_fault}
-use Rattle.pr_regions.specs.inside.Parts.{tells_of_ending}
+use Rattle.pr_regions.specs.inside.Parts.{tells_of_clearing}
 use Rattle.pr_regions.proofs.lemmas.Purposes.Conduct.{key_named}
 use Rattle.pr_regions.proofs.lemmas.Regions.Effects.{still, on_register, on_release, on_clear}
 use Rattle.pr_regions.proofs.lemmas.Regions.PreemptCases.{in_case, on_preempt_all}
@@ -146,10 +146,10 @@ release_good hosts t held v sender standing change is holder same does room = re
 
 -- ---- CLEAR
 
-pub clear_good : (hosts : ℕ) (held : Option Held) (sender : ℕ) (standing : Standing) (change : Transition) → Does change (Some 0) is_of_registrant 0 (tells_of_ending is_of_registrant) → HasRoom hosts (Good change)
+pub clear_good : (hosts : ℕ) (held : Option Held) (sender : ℕ) (standing : Standing) (change : Transition) → Does change (Some 0) is_of_registrant 0 (tells_of_clearing is_of_registrant) → HasRoom hosts (Good change)
     → AlwaysEnds hosts Clear held sender standing (Good change)
 clear_good hosts held sender standing change does room = record {
-  ends = λ s u c alike m. good_ends s Clear held sender standing u c (Some 0) is_of_registrant 0 (tells_of_ending is_of_registrant) change tt m refl refl does (on_clear s.keys s.hosts sender u.registry);
+  ends = λ s u c alike m. good_ends s Clear held sender standing u c (Some 0) is_of_registrant 0 (tells_of_clearing is_of_registrant) change tt m refl refl does (on_clear s.keys s.hosts sender u.registry);
   fits = room;
 }
 

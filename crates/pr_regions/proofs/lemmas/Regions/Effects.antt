@@ -12,7 +12,7 @@ use Rattle.pr_sets.specs.declared.bit_set.BitSet.{BitSet}
 use Rattle.pr_sets.specs.BitSets.{has}
 use Rattle.pr_views.proofs.lemmas.Possibilities.Numbers.{same_registration}
 use Rattle.pr_regions.specs.Transitions.{HasThose, HaveAudience}
-use Rattle.pr_regions.specs.inside.Parts.{tells_of_ending}
+use Rattle.pr_regions.specs.inside.Parts.{tells_of_clearing}
 use Rattle.pr_regions.proofs.lemmas.Showing.Numbers.{AreDistinct, is_some-key_at}
 use Rattle.pr_regions.proofs.lemmas.Regions.ChangedStates.{Is, Acts, AreTold, AreAudience}
 
@@ -92,8 +92,8 @@ told_of_loss : (keys : List ℕ) (u : State) (from : ℕ) (b : Bool) → AreAudi
 told_of_loss keys u from b = record { told_03 = none_told keys u from; told_04 = others_told_if keys u from b; told_05 = none_told keys u from }
 
 -- who tells nobody tells these once it tells that reservations were preempted
-pub then_of_ending : (v w_03 w_04 w_05 : BitSet) (those : ℕ → Bool) → HaveAudience w_03 w_04 w_05 tells_nobody → HasThose v those → HaveAudience v w_04 w_05 (tells_of_ending those)
-then_of_ending v w_03 w_04 w_05 those none tells = record { told_03 = tells; told_04 = none.told_04; told_05 = none.told_05 }
+pub then_of_clearing : (v w_03 w_04 w_05 : BitSet) (those : ℕ → Bool) → HaveAudience w_03 w_04 w_05 tells_nobody → HasThose v those → HaveAudience v w_04 w_05 (tells_of_clearing those)
+then_of_clearing v w_03 w_04 w_05 those none tells = record { told_03 = tells; told_04 = none.told_04; told_05 = none.told_05 }
 
 -- and that registrations were
 pub then_of_removal : (v w_03 w_04 w_05 : BitSet) (those : ℕ → Bool) → HaveAudience w_03 w_04 w_05 tells_nobody → HasThose v those → HaveAudience w_03 w_04 v (tells_of_removal those)
@@ -129,7 +129,7 @@ on_register keys hosts from j k u fits named = record {
   told = nobody_told keys u from;
 }
 
-pub on_clear : (keys : List ℕ) (hosts from : ℕ) (u : State) → Becomes keys hosts from (Some 0) is_of_registrant 0 (tells_of_ending is_of_registrant) u (after_clear u) (change_on_clear u from)
+pub on_clear : (keys : List ℕ) (hosts from : ℕ) (u : State) → Becomes keys hosts from (Some 0) is_of_registrant 0 (tells_of_clearing is_of_registrant) u (after_clear u) (change_on_clear u from)
 on_clear keys hosts from u = record {
   sender = λ r is. record { known = omega arith; key = get-empty from };
   others = λ g r other is. get-empty g ∙ none keys g r is;
