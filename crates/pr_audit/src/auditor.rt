@@ -6,13 +6,13 @@ ghost use Rattle.pr_roles.specs.FirstStarts.{first_state};
 ghost use Rattle.pr_roles.specs.Worlds.{control};
 ghost use Rattle.pr_audit.specs.Auditors.{IsAuditorOf, IsPast, IsTriedAfter, StartsAt, send_of, world_at};
 ghost use Rattle.pr_audit.specs.Ends.{IsEndBy};
-ghost use Rattle.pr_audit.specs.inside.Auditing.{AreFirstSenders, how_of};
+ghost use Rattle.pr_audit.specs.inside.Auditing.{AreFirstSenders};
 
 use crate::end::End;
 use crate::refusing::may_come;
 use crate::resetting::may_reset;
 use crate::sender::Sender;
-use pr_cdb::{Command, Status};
+use pr_cdb::Command;
 use pr_roles::{Entry, How, Item, Scenario, first_start};
 use pr_unit::Unit;
 use std::alloc::{AllocError, Global};
@@ -130,7 +130,7 @@ impl Auditor {
         if index >= nexuses.len() {
             return false;
         }
-        let how = how_of(entry.reply.status);
+        let how = How::of(entry.reply.status);
         if !may_come(scenario, before, entry.host, how) {
             return false;
         }
@@ -149,17 +149,6 @@ impl Auditor {
             self.unit.reset();
         }
         may
-    }
-}
-
-// How a command was answered, which the status tells.
-fn how_of(status: Status) -> How
-    ensures { result ≡ how_of status }
-{
-    match status {
-        Status::Good | Status::CheckCondition | Status::Conflict => How::Plain,
-        Status::Busy => How::Busy,
-        Status::TaskFull => How::Full,
     }
 }
 

@@ -1,8 +1,8 @@
 //! Refusals: how often a nexus was refused, and the replies that say so.
 
-ghost use Rattle.std.specs.Prelude.{◌≡◌, ◌<◌, [], None, length};
-ghost use Rattle.pr_unit.specs.Replies.{reply_of};
-ghost use Rattle.pr_roles.specs.Answers.{is_refusal, is_refused, refusals_by, may_come, how_now};
+ghost use Rattle.std.specs.Prelude.{◌≡◌, ◌<◌, length};
+ghost use Rattle.pr_unit.specs.Replies.{refused_with};
+ghost use Rattle.pr_roles.specs.Answers.{is_refused, refusals_by, may_come, how_now};
 ghost use Rattle.pr_roles.specs.Scenarios.{scenario_of};
 
 use arrayvec::ArrayVec;
@@ -27,11 +27,7 @@ pub fn may_come(scenario: &Scenario, history: &[Item], host: u8, how: How) -> bo
     ensures { result ≡ may_come (scenario_of scenario.now) history.now host how }
 {
     let nexus = &scenario.parts().nexuses[usize::from(host)];
-    match how {
-        How::Plain => true,
-        How::Busy => refusals_by(history, host, how) < nexus.busy as usize,
-        How::Full => refusals_by(history, host, how) < nexus.full as usize,
-    }
+    how.status().is_none() || refusals_by(history, host, how) < nexus.most_refusals(how) as usize
 }
 
 // How many commands of the nexus were refused so.
@@ -49,24 +45,14 @@ fn is_refused(item: &Item, host: u8, how: How) -> bool
     ensures { result ≡ is_refused host how item.now }
 {
     match item {
-        Item::Sent(entry) => entry.host == host && is_refusal(how, &entry.reply),
+        Item::Sent(entry) => entry.host == host && how.refuses(&entry.reply),
         Item::Reset => false,
-    }
-}
-
-fn is_refusal(how: How, reply: &Reply) -> bool
-    ensures { result ≡ is_refusal how reply.now }
-{
-    match how {
-        How::Plain => false,
-        How::Busy => reply.status == Status::Busy,
-        How::Full => reply.status == Status::TaskFull,
     }
 }
 
 /// A reply of this status alone, as BUSY and TASK SET FULL are.
 pub fn refused(status: Status) -> Reply
-    ensures { result ≡ reply_of status None [] }
+    ensures { result ≡ refused_with status }
 {
     Reply {
         status,

@@ -135,10 +135,9 @@ fn is_answered(unit: &mut Unit, entry: &Entry, how: How) -> bool
     requires { entry.now.host < unit.old.registry.hosts }
     ensures { IsAnswered how unit.old entry.now result unit.new }
 {
-    match how {
-        How::Plain => unit.follow(entry.host, &entry.wire, &entry.reply),
-        How::Busy => entry.reply == refused(Status::Busy),
-        How::Full => entry.reply == refused(Status::TaskFull),
+    match how.status() {
+        None => unit.follow(entry.host, &entry.wire, &entry.reply),
+        Some(status) => entry.reply == refused(status),
     }
 }
 

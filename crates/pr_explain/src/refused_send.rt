@@ -41,10 +41,7 @@ impl RefusedSend<'_> {
         tables: &'a [Table],
     ) -> Option<RefusedSend<'a>> {
         let (host, line, unarmed) = match refusal {
-            Refusal::NoArm {
-                class: Class::Busy | Class::Full,
-                ..
-            } => return None,
+            Refusal::NoArm { class, .. } if is_uncounted(class) => return None,
             Refusal::NoArm { host, line, class } => (host, line, Some(class)),
             Refusal::OutOfRole { host, line } => (host, line, None),
             Refusal::OverBudget { .. } | Refusal::Memory | Refusal::NotSound { .. } => return None,
@@ -91,6 +88,11 @@ impl RefusedSend<'_> {
         let landing = Landing::NoArm(class);
         Ok(outcomes.iter().any(|outcome| outcome.0 == landing))
     }
+}
+
+/// Whether it is BUSY or TASK SET FULL, of which `fence check` doesn't count how often they came.
+pub(crate) fn is_uncounted(class: Class) -> bool {
+    matches!(class, Class::Busy | Class::Full)
 }
 
 // Whether arms with these tests may stand behind the command.

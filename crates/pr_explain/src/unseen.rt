@@ -2,6 +2,7 @@
 
 use crate::fact::Fact;
 use crate::possible::put_attentions;
+use crate::refused_send::is_uncounted;
 use pr_output::{Token, WriteFault, put, put_spaced};
 use pr_roles::{Nexus, Task};
 use pr_script::Class;
@@ -19,10 +20,7 @@ pub(crate) fn put_unseen<W: Write>(
 ) -> Result<(), WriteFault> {
     put(writer, b" `fence check` can't see it: ")?;
     match refusal {
-        Refusal::NoArm {
-            class: class @ (Class::Busy | Class::Full),
-            ..
-        } => put_uncounted(writer, class)?,
+        Refusal::NoArm { class, .. } if is_uncounted(class) => put_uncounted(writer, class)?,
         Refusal::NoArm { host, line, .. } | Refusal::OutOfRole { host, line } => {
             put_forgotten(writer, nexuses, host, line, forgotten)?;
         }

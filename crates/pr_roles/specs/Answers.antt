@@ -1,31 +1,54 @@
 -- Agrees with docs/MODEL.md, 'Worlds, events and runs'.
 -- How a command may be answered: by a step of the unit, or by BUSY or TASK SET FULL, in which the unit has no part.
-use Rattle.std.specs.Prelude.{◌≡◌, ℕ, Bool, true, false, ◌==◌, ◌&&◌, nat_lt, List, if◌then◌else◌}
+use Rattle.std.specs.Prelude.{◌≡◌, ℕ, Bool, false, ◌==◌, ◌&&◌, ◌||◌, nat_lt, List, Option, Some, None, is_none, if◌then◌else◌}
 use Rattle.std.specs.List.{count_by}
 use Rattle.std.specs.Option.{option_map_or}
 use Rattle.pr_cdb.specs.declared.reply.Reply.{Reply}
+use Rattle.pr_cdb.specs.declared.reply.Status.{Status}
+use Rattle.pr_cdb.specs.declared.reply.Status.TheVariants.{Good, CheckCondition, Conflict, Busy, TaskFull}
 use Rattle.pr_cdb.specs.declared.wire.Request.{Request}
 use Rattle.pr_cdb.specs.Statuses.{is_busy_status, is_full_status}
 use Rattle.pr_unit.specs.UnitStates.{UnitState}
-use Rattle.pr_unit.specs.Replies.{busy, full}
+use Rattle.pr_unit.specs.Replies.{refused_with}
 use Rattle.pr_unit.specs.Steps.{Step}
 use Rattle.pr_roles.specs.declared.how.How.{How}
 use Rattle.pr_roles.specs.declared.how.How.TheVariants as how
 use Rattle.pr_roles.specs.declared.item.Item.{Item}
 use Rattle.pr_roles.specs.declared.item.Item.TheVariants.{Sent, Reset}
-use Rattle.pr_roles.specs.Scenarios.{Scenario, nexus}
+use Rattle.pr_roles.specs.Scenarios.{Scenario, Nexus, nexus}
+
+-- the status of a refusal; the answers of the unit have others
+abbrev pub status_of : How → Option Status
+status_of how.Plain = None
+status_of how.Busy = Some Busy
+status_of how.Full = Some TaskFull
+
+-- how a command was answered, which its status tells
+abbrev pub how_of : Status → How
+how_of Good = how.Plain
+how_of CheckCondition = how.Plain
+how_of Conflict = how.Plain
+how_of Busy = how.Busy
+how_of TaskFull = how.Full
+
+-- answered by such a step of the unit, or refused with this status, which leaves the unit as it is
+abbrev pub StepsOrIsRefused : Option Status → Type 0 → UnitState → Reply → UnitState → Type 0
+StepsOrIsRefused None step u r v = step
+StepsOrIsRefused (Some status) step u r v = (r ≡ refused_with status) × (v ≡ u)
 
 -- The request q of host h, answered so: with reply r, and then the state is v.
 abbrev pub Answers : How → UnitState → ℕ → Request → Reply → UnitState → Type 0
-Answers how.Plain u h q r v = Step u h q r v
-Answers how.Busy u h q r v = (r ≡ busy) × (v ≡ u)
-Answers how.Full u h q r v = (r ≡ full) × (v ≡ u)
+Answers how u h q r v = StepsOrIsRefused (status_of how) (Step u h q r v) u r v
 
--- the most answers of this kind that the scenario declares for h
+-- the most refusals of this kind that are declared for a nexus
+abbrev pub most_of : How → Nexus → ℕ
+most_of how.Plain n = 0
+most_of how.Busy n = n.busy
+most_of how.Full n = n.full
+
+-- the same for h, by its number
 abbrev pub most_refusals : Scenario → ℕ → How → ℕ
-most_refusals s h how.Plain = 0
-most_refusals s h how.Busy = option_map_or (λ n. n.busy) (nexus s h) 0
-most_refusals s h how.Full = option_map_or (λ n. n.full) (nexus s h) 0
+most_refusals s h how = option_map_or (most_of how) (nexus s h) 0
 
 abbrev pub is_refusal : How → Reply → Bool
 is_refusal how.Plain r = false
@@ -41,11 +64,9 @@ is_refused h how Reset = false
 abbrev pub refusals_by : List Item → ℕ → How → ℕ
 refusals_by history h how = count_by (is_refused h how) history
 
--- h may still be told so
+-- h may still be answered so: by the unit always, and refused no more often than is declared
 abbrev pub may_come : Scenario → List Item → ℕ → How → Bool
-may_come s history h how.Plain = true
-may_come s history h how.Busy = nat_lt (refusals_by history h how.Busy) (most_refusals s h how.Busy)
-may_come s history h how.Full = nat_lt (refusals_by history h how.Full) (most_refusals s h how.Full)
+may_come s history h how = is_none (status_of how) || nat_lt (refusals_by history h how) (most_refusals s h how)
 
 -- as is asked for, where that may still come, else by the unit
 abbrev pub how_now : Scenario → List Item → ℕ → How → How

@@ -1,9 +1,12 @@
 //! How a command is answered.
 
 ghost use Rattle.std.specs.Prelude.{◌≡◌, ◌==◌, not};
+ghost use Rattle.pr_roles.specs.Answers.{how_of, is_refusal, most_of, status_of};
 ghost use Rattle.pr_roles.specs.DeclaredRefusals.{is_among};
+ghost use Rattle.pr_roles.specs.Scenarios.{nexus_of};
 
 use crate::parts::Nexus;
+use pr_cdb::{Reply, Status};
 
 /// How a command is answered: by the unit, or by one of the two refusals in which it has no part (SAM-5, 'Status').
 #[derive(Clone, Copy, Debug, PartialEq, Eq)]
@@ -14,6 +17,41 @@ pub enum How {
     Busy,
     /// TASK SET FULL.
     Full,
+}
+
+impl How {
+    /// How a command was answered, which the status of its reply tells.
+    pub fn of(status: Status) -> How
+        ensures { result ≡ how_of status }
+    {
+        match status {
+            Status::Good | Status::CheckCondition | Status::Conflict => How::Plain,
+            Status::Busy => How::Busy,
+            Status::TaskFull => How::Full,
+        }
+    }
+
+    /// The status of a refusal; none of an answer of the unit, which has any other.
+    pub fn status(self) -> Option<Status>
+        ensures { result ≡ status_of self }
+    {
+        match self {
+            How::Plain => None,
+            How::Busy => Some(Status::Busy),
+            How::Full => Some(Status::TaskFull),
+        }
+    }
+
+    /// Whether the reply is such a refusal.
+    pub fn refuses(self, reply: &Reply) -> bool
+        ensures { result ≡ is_refusal self reply.now }
+    {
+        match self {
+            How::Plain => false,
+            How::Busy => reply.status == Status::Busy,
+            How::Full => reply.status == Status::TaskFull,
+        }
+    }
 }
 
 /// Which of the two refusals a nexus may meet.
@@ -37,6 +75,18 @@ impl Refusals {
 }
 
 impl Nexus {
+    /// How often it may be refused so. An answer of the unit is no refusal, so of that it is 0.
+    pub fn most_refusals(&self, how: How) -> u32
+        ensures { result ≡ most_of how (nexus_of self.now) }
+    {
+        let Nexus { busy, full, .. } = self;
+        match how {
+            How::Plain => 0,
+            How::Busy => *busy,
+            How::Full => *full,
+        }
+    }
+
     /// Which of them it may meet: those that are declared for it at all.
     pub fn refusals(&self) -> Refusals
         ensures busy { result.busy ≡ not (self.now.busy == 0) }

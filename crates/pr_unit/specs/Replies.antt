@@ -8,7 +8,7 @@ use Rattle.pr_cdb.specs.declared.command.Command.{Command}
 use Rattle.pr_cdb.specs.declared.command.Command.TheVariants.{TestUnitReady, RequestSense, Read, Write, ReadKeys, ReadReservation, ReportCapabilities, Register, RegisterIgnore, Reserve, Release, Clear, Preempt, PreemptAbort}
 use Rattle.pr_cdb.specs.declared.reply.Sense.{Sense}
 use Rattle.pr_cdb.specs.declared.reply.Status.{Status}
-use Rattle.pr_cdb.specs.declared.reply.Status.TheVariants.{Good, CheckCondition, Conflict, Busy, TaskFull}
+use Rattle.pr_cdb.specs.declared.reply.Status.TheVariants.{Good, CheckCondition, Conflict}
 use Rattle.pr_cdb.specs.declared.reply.Reply.{Reply}
 use Rattle.pr_cdb.specs.declared.wire.Request.{Request}
 use Rattle.pr_cdb.specs.declared.wire.Request.TheVariants.{Plain, Faulty}
@@ -33,12 +33,9 @@ check sense = reply_of CheckCondition (Some sense) []
 abbrev pub conflict : Reply
 conflict = reply_of Conflict None []
 
--- the two refusals that the command has no part in, and that leave the unit as it is
-abbrev pub busy : Reply
-busy = reply_of Busy None []
-
-abbrev pub full : Reply
-full = reply_of TaskFull None []
+-- a refusal with this status, BUSY or TASK SET FULL, that the command has no part in and that leaves the unit as it is
+abbrev pub refused_with : Status → Reply
+refused_with status = reply_of status None []
 
 abbrev pub is_good : Reply → Bool
 is_good r = is_good_status r.status

@@ -64,7 +64,7 @@ pub(crate) fn report(
 }
 
 /// The reply that reports the attention: REQUEST SENSE reports it as data.
-pub(crate) fn report_of(request: Request, attention: Attention) -> Reply
+pub fn report_of(request: Request, attention: Attention) -> Reply
     ensures { result ≡ report request (code_of attention) }
 {
     let sense = attention.sense();

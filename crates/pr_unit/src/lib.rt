@@ -14,6 +14,7 @@ mod pending_table;
 mod reply;
 mod unit;
 
+pub use answers::report_of;
 pub use conduct::illegal;
 pub use conflicts::{is_key, is_refused};
 pub use demand::{Admission, Demand, admission_of, demand_of};

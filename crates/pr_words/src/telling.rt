@@ -8,7 +8,7 @@ ghost use Rattle.pr_words.specs.Tellings.{IsTold};
 use crate::adopting::adopt;
 use pr_audit::{AuditError, Auditor, End, audit, counts_of, refused};
 use pr_cdb::{Command, Reply, Status, decode, encode};
-use pr_roles::{Entry, Item, Scenario, first_start, nexus_in, permits};
+use pr_roles::{Entry, How, Item, Nexus, Scenario, first_start, nexus_in, permits};
 use pr_unit::Unit;
 use std::alloc::{AllocError, Global};
 
@@ -272,14 +272,9 @@ fn instead_of_reply(auditor: &Auditor, scenario: &Scenario, entry: &Entry) -> In
     requires acts { ActFor (scenario_of scenario.now) (world_at auditor.now []) }
     requires there { entry.now.host < length (scenario_of scenario.now).nexuses }
 {
-    let nexus = nexus_in(scenario, entry.host);
-    match entry.reply.status {
-        Status::Busy | Status::TaskFull if entry.reply != refused(entry.reply.status) => {
-            return Instead::Bare;
-        }
-        Status::Busy => return Instead::Refusals(nexus.busy),
-        Status::TaskFull => return Instead::Refusals(nexus.full),
-        Status::Good | Status::CheckCondition | Status::Conflict => {}
+    let how = How::of(entry.reply.status);
+    if how != How::Plain {
+        return instead_of_refusal(nexus_in(scenario, entry.host), &entry.reply, how);
     }
     let mut unit = auditor.unit().copy();
     match unit.execute(entry.host, &entry.wire) {
@@ -287,6 +282,14 @@ fn instead_of_reply(auditor: &Auditor, scenario: &Scenario, entry: &Entry) -> In
         Ok(reply) => Instead::Answer(reply),
         Err(_) => Instead::NotModelled,
     }
+}
+
+// The same of a refusal.
+fn instead_of_refusal(nexus: &Nexus, reply: &Reply, how: How) -> Instead {
+    if *reply != refused(reply.status) {
+        return Instead::Bare;
+    }
+    Instead::Refusals(nexus.most_refusals(how))
 }
 
 // How each nexus stands.

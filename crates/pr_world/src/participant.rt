@@ -12,7 +12,7 @@ ghost use Rattle.pr_world.specs.inside.Turns.{ParticipantActs, doing_of, partici
 use crate::act::Act;
 use crate::plan::Plan;
 use pr_audit::{End, refused};
-use pr_cdb::{Command, Status, encode};
+use pr_cdb::{Command, encode};
 use pr_roles::{Entry, How, Nexus, Role, Task, permits};
 use pr_script::{Machine, Next};
 use pr_unit::Unit;
@@ -98,10 +98,7 @@ fn is_passed_over(unit: &Unit, role: &Role, host: u8, command: Command, how: How
     requires { host < unit.now.registry.hosts }
     ensures { result ≡ is_passed_over how role.now.clauses.items unit.now host command }
 {
-    match how {
-        How::Plain => is_held_back(unit, role, host, command),
-        How::Busy | How::Full => false,
-    }
+    how.status().is_none() && is_held_back(unit, role, host, command)
 }
 
 // The command would end GOOD, and the role does not permit that.
@@ -119,13 +116,12 @@ fn send(unit: &mut Unit, host: u8, command: Command, how: How) -> Entry
     ensures hosts { unit.new.registry.hosts ≡ unit.old.registry.hosts }
 {
     let wire = encode(&command);
-    let reply = match how {
-        How::Plain => match unit.execute(host, &wire) {
+    let reply = match how.status() {
+        None => match unit.execute(host, &wire) {
             Ok(reply) => reply,
             Err(_) => unreachable!(),
         },
-        How::Busy => refused(Status::Busy),
-        How::Full => refused(Status::TaskFull),
+        Some(status) => refused(status),
     };
     Entry { host, wire, reply }
 }

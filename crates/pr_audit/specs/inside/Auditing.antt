@@ -2,8 +2,6 @@
 use Rattle.std.specs.Prelude.{◌≡◌, ℕ, ◌≤◌, Bool, true, false, IsTrue, List, Some, Ok, length, map}
 use Rattle.pr_cdb.specs.declared.codes.TheConstants.{MOST_CDB_LENGTH, PARAMETER_LIST_LENGTH}
 use Rattle.pr_cdb.specs.declared.command.Command.{Command}
-use Rattle.pr_cdb.specs.declared.reply.Status.{Status}
-use Rattle.pr_cdb.specs.declared.reply.Status.TheVariants as status
 use Rattle.pr_cdb.specs.declared.wire.Request.{Request}
 use Rattle.pr_cdb.specs.declared.wire.Request.TheVariants.{Plain}
 use Rattle.pr_cdb.specs.Requests.{request_of_wire, AreBytes}
@@ -20,21 +18,12 @@ use Rattle.pr_roles.specs.declared.role.Role.{Role}
 use Rattle.pr_roles.specs.declared.entry.Entry.{Entry}
 use Rattle.pr_roles.specs.declared.item.Item.{Item}
 use Rattle.pr_roles.specs.declared.how.How.{How}
-use Rattle.pr_roles.specs.declared.how.How.TheVariants as how
 use Rattle.pr_roles.specs.Answers.{Answers}
 use Rattle.pr_roles.specs.Permits.{is_permitted}
 use Rattle.pr_roles.specs.Scenarios.{Scenario, Task, Scripted, Planned, scenario_of}
 use Rattle.pr_roles.specs.Worlds.{World, Event, Run, Control, Going, Trapped, Free, control_of, standing_of, control_after, world_from}
 use Rattle.pr_audit.specs.declared.sender.Sender.{Sender}
 use Rattle.pr_audit.specs.Auditors.{control_by}
-
--- how it was answered, which its status tells
-abbrev pub how_of : Status → How
-how_of status.Good = how.Plain
-how_of status.CheckCondition = how.Plain
-how_of status.Conflict = how.Plain
-how_of status.Busy = how.Busy
-how_of status.TaskFull = how.Full
 
 -- True: what its bytes ask for may be answered so, and then the unit is in this state. False: it may not, and nothing changes.
 abbrev pub IsAnswered : How → UnitState → Entry → Bool → UnitState → Type 0

@@ -4,6 +4,7 @@ use Rattle.std.specs.FinSet as set
 use Rattle.std.specs.List.{All, slice_get}
 use Rattle.pr_cdb.specs.declared.command.Command.{Command}
 use Rattle.pr_cdb.specs.declared.reply.Reply.{Reply}
+use Rattle.pr_cdb.specs.declared.reply.Status.TheVariants as status
 use Rattle.pr_cdb.specs.declared.reply.Sense.{Sense}
 use Rattle.pr_cdb.specs.declared.wire.Request.TheVariants.{Plain}
 use Rattle.pr_attention.specs.declared.attention.Attention.{Attention}
@@ -11,7 +12,7 @@ use Rattle.pr_attention.specs.Attentions.{power_on, code_of}
 use Rattle.pr_attention.specs.Flagged.{codes_of}
 use Rattle.pr_unit.specs.UnitStates.{UnitState, is_pending, is_any_pending, effect, after_report}
 use Rattle.pr_unit.specs.Conduct.{command_conflicts, command_fault}
-use Rattle.pr_unit.specs.Replies.{good, check, conflict, busy, full, report, data_of}
+use Rattle.pr_unit.specs.Replies.{good, check, conflict, refused_with, report, data_of}
 use Rattle.pr_script.specs.declared.script.Test.{Test}
 use Rattle.pr_script.specs.Takes.{matches}
 use Rattle.pr_script.specs.declared.landing.Landing.{Landing}
@@ -43,8 +44,8 @@ IsBlind t = (r : Reply) (bytes : List ℕ) → matches t (record r { bytes = rec
 abbrev pub reply_in : Class → Reply
 reply_in Good = good []
 reply_in Conflict = conflict
-reply_in Busy = busy
-reply_in Full = full
+reply_in Busy = refused_with status.Busy
+reply_in Full = refused_with status.TaskFull
 reply_in (WithSense sense) = check sense
 
 -- whether the test matches the replies of the class, where it does not look at their data
@@ -120,8 +121,8 @@ abbrev pub MayReport : Command → ℕ → UnitState → Attention → Type 0
 MayReport c h u a = IsLater a → (is_pending u h power_on ≡ false) × (command_conflicts u.registry h c ≡ false)
 
 abbrev pub refusal : Unserved → Reply
-refusal refused.Busy = busy
-refusal refused.Full = full
+refusal refused.Busy = refused_with status.Busy
+refusal refused.Full = refused_with status.TaskFull
 
 -- such an end may come where the sender may meet these refusals
 abbrev pub comes : Refusals → Ending → Bool

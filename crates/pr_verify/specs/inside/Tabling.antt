@@ -1,9 +1,10 @@
 -- Rows of a table while they are made, and what is found of its host.
-use Rattle.std.specs.Prelude.{ℕ, ◌<◌, ◌≤◌, Option, Some, None}
+use Rattle.std.specs.Prelude.{◌≡◌, ℕ, ◌<◌, ◌≤◌, Option, Some, None}
+use Rattle.pr_cdb.specs.declared.reply.Sense.{Sense}
 use Rattle.pr_script.specs.Costs.{cost_of_all}
 use Rattle.pr_script.specs.Scripts.{Stmts}
 use Rattle.pr_script.specs.declared.landing.Class.{Class}
-use Rattle.pr_script.specs.declared.landing.Class.TheVariants.{Good, Conflict, Busy, Full, Sense}
+use Rattle.pr_script.specs.declared.landing.Class.TheVariants.{Sense as WithSense}
 use Rattle.pr_roles.specs.Scenarios.{Scenario, task}
 use Rattle.pr_roles.specs.declared.refusal.Refusal.{Refusal}
 use Rattle.pr_views.specs.declared.table.Table.{Table}
@@ -12,13 +13,9 @@ use Rattle.pr_views.specs.Tables.{table_of}
 use Rattle.pr_verify.specs.Tables.{IsTable}
 use Rattle.pr_verify.specs.Verdicts.{IsReasonAgainst, HasReason, IsFirstReason}
 
--- the fields of its sense are in the ranges of their types
+-- where it is a sense, its fields are in the ranges of their types
 abbrev pub IsInRange : Class → Type 0
-IsInRange Good = Unit {0}
-IsInRange Conflict = Unit {0}
-IsInRange Busy = Unit {0}
-IsInRange Full = Unit {0}
-IsInRange (Sense sense) = (sense.key < 256) × (sense.asc < 256) × (sense.ascq < 256)
+IsInRange class = (sense : Sense) → class ≡ WithSense sense → (sense.key < 256) × (sense.asc < 256) × (sense.ascq < 256)
 
 -- the table of a host, if it has a script
 abbrev pub IsTableFor : Scenario → ℕ → Table → Type 0

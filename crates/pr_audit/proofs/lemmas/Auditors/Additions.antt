@@ -1,5 +1,5 @@
 -- The items that some event adds to a world are just those that may come next.
-use Rattle.pr_audit.proofs.Common.{◌≡◌, ℕ, ◌<◌, ◌≤◌, Bool, true, false, List, [], ◌∷◌, ◌++◌, length, get_or, IsTrue, slice_get, slice_set, Some, None, Option, option_map, sym, refl, ap, ◌∙◌, subst, arith, option_map_or, map-set_same, false≢true, length-map, slice_get-map, slice_get-get_or, spelling, Command, Reply, Request, Plain, UnitState, ready, Answers, may_come, Task, Scripted, Planned, Nexus, role, Scenario, Control, Going, Trapped, Free, standing_of, control_after, World, control, entry_of, Event, Host, Guest, UnitReset, is_guest_task, Happens, Entry, How, Item, Sent, Reset, Adds, IsTried, is_free, ActFor, is_planned, IsJudged}
+use Rattle.pr_audit.proofs.Common.{◌≡◌, ℕ, ◌<◌, ◌≤◌, Bool, true, false, List, [], ◌∷◌, ◌++◌, length, get_or, IsTrue, slice_get, slice_set, Some, None, Option, option_map, sym, refl, ap, ◌∙◌, subst, arith, option_map_or, map-set_same, false≢true, length-map, slice_get-map, slice_get-get_or, spelling, Command, Reply, Request, Plain, UnitState, ready, Answers, how_of, may_come, Task, Scripted, Planned, Nexus, role, Scenario, Control, Going, Trapped, Free, standing_of, control_after, World, control, entry_of, Event, Host, Guest, UnitReset, is_guest_task, Happens, Entry, How, Item, Sent, Reset, Adds, IsTried, is_free, ActFor, is_planned, IsJudged}
 use Rattle.std.proofs.Common.{◌||◌}
 use Rattle.std.proofs.lemmas.List.{append_cancel_left}
 use Rattle.std.proofs.lemmas.Option.{slice_get_past}
@@ -10,7 +10,7 @@ use Rattle.pr_cdb.specs.declared.wire.Wire.{Wire}
 use Rattle.pr_unit.proofs.lemmas.Steps.Statuses.{steps_are_never_busy}
 use Rattle.pr_roles.specs.declared.how.How.TheVariants as how
 use Rattle.pr_roles.specs.Worlds.{GuestSends, is_guest, after as world_after}
-use Rattle.pr_audit.specs.inside.Auditing.{how_of, MayCome}
+use Rattle.pr_audit.specs.inside.Auditing.{MayCome}
 use Rattle.pr_audit.proofs.lemmas.Auditing.Judgements.{may_fixed, free_judged, hosts_judged}
 
 -- the world after this entry, of one that acts so then

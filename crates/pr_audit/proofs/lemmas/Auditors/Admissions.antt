@@ -1,11 +1,11 @@
 -- An entry that one among the senders was asked for.
-use Rattle.pr_audit.proofs.Common.{◌≡◌, ℕ, ◌<◌, ◌≤◌, Bool, true, false, List, [], ◌∷◌, ◌++◌, map, length, get_or, IsTrue, slice_set, Some, vec_len, sym, refl, ap, ◌∙◌, subst, arith, option_map_or, get_or-map, length-map, map-set, slice_get-get_or, map-set_same, slice_get, UnitState, may_come, Task, Scripted, Planned, Nexus, role, Scenario, scenario_of, Free, World, control, control_of, Entry, How, Item, Sent, Parts, control_by, Adds, IsTried, is_free, ActFor, is_planned, IsJudged}
+use Rattle.pr_audit.proofs.Common.{◌≡◌, ℕ, ◌<◌, ◌≤◌, Bool, true, false, List, [], ◌∷◌, ◌++◌, map, length, get_or, IsTrue, slice_set, Some, vec_len, sym, refl, ap, ◌∙◌, subst, arith, option_map_or, get_or-map, length-map, map-set, slice_get-get_or, map-set_same, slice_get, UnitState, how_of, may_come, Task, Scripted, Planned, Nexus, role, Scenario, scenario_of, Free, World, control, control_of, Entry, How, Item, Sent, Parts, control_by, Adds, IsTried, is_free, ActFor, is_planned, IsJudged}
 use Rattle.std.proofs.Common.{Vec, Global}
 use Rattle.std.proofs.lemmas.List.{length-set, get_or-set_same}
 use Rattle.pr_roles.specs.declared.parts.Nexus.{Nexus as NexusPart}
 use Rattle.pr_audit.specs.declared.sender.Sender.{Sender}
 use Rattle.pr_audit.specs.Auditors.{IsPast}
-use Rattle.pr_audit.specs.inside.Auditing.{AreFirstSenders, how_of}
+use Rattle.pr_audit.specs.inside.Auditing.{AreFirstSenders}
 use Rattle.pr_audit.proofs.lemmas.Auditing.Parts.{count_of_parts, role_at}
 use Rattle.pr_audit.proofs.lemmas.Auditors.Additions.{judged_tried, judged_acts, none_left, none_past}
 

@@ -11,6 +11,7 @@ use Rattle.pr_cdb.specs.declared.command.Command.{Command}
 use Rattle.pr_cdb.specs.declared.command.Command.TheVariants.{RequestSense, ReadKeys, ReadReservation, ReportCapabilities}
 use Rattle.pr_cdb.specs.declared.reply.Reply.{Reply}
 use Rattle.pr_cdb.specs.declared.reply.Sense.{Sense}
+use Rattle.pr_cdb.specs.declared.reply.Status.{Status}
 use Rattle.pr_cdb.specs.declared.reply.Status.TheVariants.{CheckCondition}
 use Rattle.pr_cdb.specs.declared.wire.Request.{Request}
 use Rattle.pr_cdb.specs.declared.wire.Request.TheVariants.{Plain, Faulty}
@@ -30,11 +31,11 @@ use Rattle.pr_unit.specs.UnitStates.{UnitState, IsWellFormed as IsWellFormedUnit
 use Rattle.pr_registry.specs.Changes.{preempt_case, is_replacing}
 use Rattle.pr_unit.specs.declared.demand.Demand.TheVariants as demand
 use Rattle.pr_unit.specs.Demands.{Asked, demand_of}
-use Rattle.pr_unit.specs.Replies.{good, check, conflict, busy, full, report, is_request_sense, reservation, data_of}
+use Rattle.pr_unit.specs.Replies.{good, check, conflict, refused_with, report, is_request_sense, reservation, data_of}
 use Rattle.pr_unit.specs.Steps.{IsDone, Step}
 use Rattle.pr_roles.specs.declared.limits.TheConstants.{MOST_DECLARED_1, MOST_DECLARED_2}
 use Rattle.pr_roles.specs.Fitting.{most_declared}
-use Rattle.pr_trace.specs.Versions.{has_status, most_data}
+use Rattle.pr_trace.specs.Versions.{has_status, most_data, since}
 use Rattle.pr_trace.specs.TraceLaws.{HasSense}
 use Rattle.pr_roles.proofs.lemmas.Worlds.SpelledBytes.{both, code_small, literal, more, none, number}
 use Rattle.pr_trace.proofs.lemmas.TraceLaws.Words.{data_are_bytes, data_short}
@@ -212,6 +213,11 @@ pub record IsReply (version : ℕ) (r : Reply) : Type 0 where
   pub status : IsTrue (has_status version r.status)
   pub sense : HasSense r.status r.sense
 
+-- each status is of version 1 or 2
+since_small : (status : Status) → since status ≤ 2
+since_small CheckCondition = omega arith
+since_small _ = omega arith
+
 module _ (version : ℕ) (there : 1 ≤ version) where
   good_is : (bytes : List ℕ) → AreData (most_data version) bytes → IsReply version (good bytes)
   good_is bytes are = record { bytes = are; status = le-leb 1 version there; sense = tt }
@@ -222,11 +228,8 @@ module _ (version : ℕ) (there : 1 ≤ version) where
   conflict_is : IsReply version conflict
   conflict_is = record { bytes = no_data version; status = le-leb 1 version there; sense = tt }
 
-  pub busy_is : 2 ≤ version → IsReply version busy
-  busy_is late = record { bytes = no_data version; status = le-leb 2 version late; sense = tt }
-
-  pub full_is : 2 ≤ version → IsReply version full
-  full_is late = record { bytes = no_data version; status = le-leb 2 version late; sense = tt }
+  pub refused_is : (status : Status) → HasSense status None → 2 ≤ version → IsReply version (refused_with status)
+  refused_is status has late = record { bytes = no_data version; status = le-leb (since status) version (let small = since_small status in omega arith); sense = has }
 
   report_is : (q : Request) (code : ℕ) → is_attention code ≡ true → IsReply version (report q code)
   report_is q code is = at (is_request_sense q) (attention_is code is)

@@ -46,7 +46,7 @@ use Rattle.pr_trace.specs.TraceLaws.{IsEnding, IsItem, TracesOfRunsAreRead}
 use Rattle.pr_trace.specs.TraceReadings.{trace_of}
 use Rattle.pr_trace.proofs.lemmas.TraceReadings.ScenarioNames.{names_count}
 use Rattle.pr_trace.proofs.lemmas.TraceLaws.Entries.{AreItems}
-use Rattle.pr_trace.proofs.lemmas.TraceLaws.Replies.{IsReply, SenseWhereRead, busy_is, full_is, reads_senses, step_is}
+use Rattle.pr_trace.proofs.lemmas.TraceLaws.Replies.{IsReply, SenseWhereRead, reads_senses, refused_is, step_is}
 use Rattle.pr_trace.proofs.lemmas.TraceLaws.Scripts.{ControlWritten, ControlsWritten, RestWritten, after_written, all_begun, one_written, ready_written, set_written}
 use Rattle.pr_roles.proofs.lemmas.Worlds.SpelledBytes.{are_bytes, are_short}
 use Rattle.pr_trace.proofs.lemmas.TraceLaws.Traces.{AreEndings, text_back}
@@ -193,15 +193,12 @@ module _ (s : Scenario) (fits : Fits s) (w : World) (underway : IsUnderway s w) 
 
   answer_is : (h : ℕ) (k : How) (q : Request) (r : Reply) (v : UnitState) → IsTrue (may_come s w.history h k) → SenseWhereRead (Ok q) → Answers k w.unit h q r v → IsReply s.version r
   answer_is h how.Plain q r v may read is = step_is s.version (first s fits) w.unit h q r v underway.formed hosts_fit read is
-  answer_is h how.Busy q r v may read is =
-      subst (IsReply s.version) (sym is.0) (busy_is s.version (first s fits) (refuses s w.history h how.Busy fits may (λ same. let bad : how.Busy ≡ how.Plain = same in cc)))
-  answer_is h how.Full q r v may read is =
-      subst (IsReply s.version) (sym is.0) (full_is s.version (first s fits) (refuses s w.history h how.Full fits may (λ same. let bad : how.Full ≡ how.Plain = same in cc)))
+  answer_is h k q r v may read is =
+      subst (IsReply s.version) (sym is.0) (refused_is s.version (first s fits) _ tt (refuses s w.history h k fits may (λ same. let bad : k ≡ how.Plain = same in cc)))
 
   unit_is : (h : ℕ) (k : How) (q : Request) (r : Reply) (v : UnitState) → (Step w.unit h q r v → IsWellFormed v) → Answers k w.unit h q r v → IsWellFormed v × (v.registry.hosts ≡ length s.nexuses)
   unit_is h how.Plain q r v step is = (step is, hosts-step w.unit h q r v is ∙ underway.hosts)
-  unit_is h how.Busy q r v step is = (subst IsWellFormed (sym is.1) underway.formed, ap (λ (x : UnitState). x.registry.hosts) is.1 ∙ underway.hosts)
-  unit_is h how.Full q r v step is = (subst IsWellFormed (sym is.1) underway.formed, ap (λ (x : UnitState). x.registry.hosts) is.1 ∙ underway.hosts)
+  unit_is h _ q r v step is = (subst IsWellFormed (sym is.1) underway.formed, ap (λ (x : UnitState). x.registry.hosts) is.1 ∙ underway.hosts)
 
   -- after a command of h
   goes_on : (h line : ℕ) (wire : Wire) (r : Reply) (v : UnitState) → h < length s.nexuses → AreBytes wire.cdb.items × AreBytes wire.params.items

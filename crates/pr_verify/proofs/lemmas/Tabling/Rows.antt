@@ -8,7 +8,7 @@ use Rattle.std.proofs.SliceLists.{all_zipped_more}
 use Rattle.std.proofs.lemmas.List.Quantifiers.{all_pairs_push}
 use Rattle.pr_script.specs.declared.script.Test.TheVariants as test
 use Rattle.pr_sets.specs.declared.view_set.ViewSet.{Ghosts as ViewSet}
-use Rattle.pr_script.specs.declared.landing.Class.TheVariants.{Good, Conflict, Busy, Full, Sense}
+use Rattle.pr_script.specs.declared.landing.Class.TheVariants.{Sense}
 use Rattle.pr_views.specs.Tables.{Row, Table, table_of}
 use Rattle.pr_roles.specs.Tasks.{has_script}
 use Rattle.pr_verify.specs.Tables.{TakesArm, IsTable, AreTables}
@@ -101,16 +101,14 @@ in_range_more xs n x small read here before class one = at (among_back (λ o. o.
 
 -- a class is known by its number
 pub class_alone : (a b : Class) → IsInRange a → IsInRange b → class_number a ≡ class_number b → a ≡ b
-class_alone Good Good one two same = refl
-class_alone Conflict Conflict one two same = refl
-class_alone Busy Busy one two same = refl
-class_alone Full Full one two same = refl
 class_alone (Sense s) (Sense t) one two same =
-    let key : s.key ≡ t.key = omega (arith, one.0, one.1, one.2, two.0, two.1, two.2) in
-    let asc : s.asc ≡ t.asc = omega (arith, one.0, one.1, one.2, two.0, two.1, two.2) in
-    let ascq : s.ascq ≡ t.ascq = omega (arith, one.0, one.1, one.2, two.0, two.1, two.2) in
+    let small = one s refl in
+    let few = two t refl in
+    let key : s.key ≡ t.key = omega (arith, small.0, small.1, small.2, few.0, few.1, few.2) in
+    let asc : s.asc ≡ t.asc = omega (arith, small.0, small.1, small.2, few.0, few.1, few.2) in
+    let ascq : s.ascq ≡ t.ascq = omega (arith, small.0, small.1, small.2, few.0, few.1, few.2) in
     λ i. Sense (record { key = key i; asc = asc i; ascq = ascq i })
-class_alone _ _ one two same = absurd (omega arith)
+class_alone a b one two same = grind arith
 
 -- ---- the row
 

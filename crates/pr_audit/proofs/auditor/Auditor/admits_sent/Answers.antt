@@ -19,17 +19,17 @@ sends-requires c =
 pub returns-clause-tried : goal.returns-clause-tried
 returns-clause-tried c =
     let there = within_parts _ _ _ _ _ c.parts.ensures.value c.from-index.ensures c.len.ensures c.if-index-len.false in
-    sender_tried c.how_of-how.result _ _ _ _ _ _ _ _ _ _ _ c.requires there c.parts.ensures.value c.from-index.ensures c.index.ensures c.index_mut.ensures.value c.how_of-how.ensures c.sends.ensures.judged
+    sender_tried c.of-how.result _ _ _ _ _ _ _ _ _ _ _ c.requires there c.parts.ensures.value c.from-index.ensures c.index.ensures c.index_mut.ensures.value c.of-how.ensures c.sends.ensures.judged
     c.args.before.now (sym c.may_come.ensures ∙ c.if-not-may_come.false)
 
 pub returns-clause-acts : goal.returns-clause-acts
 returns-clause-acts c =
     let there = within_parts _ _ _ _ _ c.parts.ensures.value c.from-index.ensures c.len.ensures c.if-index-len.false in
-    sender_acts c.how_of-how.result _ _ _ _ _ _ _ _ _ _ _ c.requires there c.parts.ensures.value c.from-index.ensures c.index.ensures c.index_mut.ensures.value c.how_of-how.ensures c.sends.ensures.judged
+    sender_acts c.of-how.result _ _ _ _ _ _ _ _ _ _ _ c.requires there c.parts.ensures.value c.from-index.ensures c.index.ensures c.index_mut.ensures.value c.of-how.ensures c.sends.ensures.judged
 
 pub returns-then-not-may_come-clause-tried : goal.returns-then-not-may_come-clause-tried
 returns-then-not-may_come-clause-tried c =
-    none_tried c.how_of-how.result _ _ _ _ _ c.requires c.how_of-how.ensures (sym c.may_come.ensures ∙ c.if-not-may_come.true)
+    none_tried c.of-how.result _ _ _ _ _ c.requires c.of-how.ensures (sym c.may_come.ensures ∙ c.if-not-may_come.true)
 
 pub may_come-requires : goal.may_come-requires
 may_come-requires c = within_parts _ _ _ _ _ c.parts.ensures.value c.from-index.ensures c.len.ensures c.if-index-len.false
