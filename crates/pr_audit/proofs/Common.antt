@@ -15,7 +15,8 @@ pub use Rattle.pr_cdb.specs.declared.wire.Request.{Request}
 pub use Rattle.pr_cdb.specs.declared.wire.Request.TheVariants.{Plain}
 pub use Rattle.pr_unit.specs.UnitStates.{UnitState}
 pub use Rattle.pr_script.specs.Scripts.{ready}
-pub use Rattle.pr_roles.specs.Answers.{Answers, how_of, may_come}
+pub use Rattle.pr_roles.specs.Answers.{Answers, may_come}
+pub use Rattle.pr_roles.specs.DeclaredRefusals.{how_of}
 pub use Rattle.pr_roles.specs.Safety.{IsLegal}
 pub use Rattle.pr_roles.specs.Scenarios.{Task, Scripted, Planned, Nexus, role, Scenario, nexus, nexus_of}
 unfoldable pub use Rattle.pr_roles.specs.Scenarios.{scenario_of}

@@ -5,7 +5,7 @@ use Rattle.std.specs.List.{count_by}
 use Rattle.std.specs.Option.{option_map_or}
 use Rattle.pr_cdb.specs.declared.reply.Reply.{Reply}
 use Rattle.pr_cdb.specs.declared.reply.Status.{Status}
-use Rattle.pr_cdb.specs.declared.reply.Status.TheVariants.{Good, CheckCondition, Conflict, Busy, TaskFull}
+use Rattle.pr_cdb.specs.declared.reply.Status.TheVariants.{Busy, TaskFull}
 use Rattle.pr_cdb.specs.declared.wire.Request.{Request}
 use Rattle.pr_cdb.specs.Statuses.{is_busy_status, is_full_status}
 use Rattle.pr_unit.specs.UnitStates.{UnitState}
@@ -22,14 +22,6 @@ abbrev pub status_of : How → Option Status
 status_of how.Plain = None
 status_of how.Busy = Some Busy
 status_of how.Full = Some TaskFull
-
--- how a command was answered, which its status tells
-abbrev pub how_of : Status → How
-how_of Good = how.Plain
-how_of CheckCondition = how.Plain
-how_of Conflict = how.Plain
-how_of Busy = how.Busy
-how_of TaskFull = how.Full
 
 -- answered by such a step of the unit, or refused with this status, which leaves the unit as it is
 abbrev pub StepsOrIsRefused : Option Status → Type 0 → UnitState → Reply → UnitState → Type 0

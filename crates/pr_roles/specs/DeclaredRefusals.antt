@@ -1,7 +1,9 @@
 -- Agrees with docs/MODEL.md, 'Worlds, events and runs'.
--- Which of BUSY and TASK SET FULL a host or guest may meet at all, however often.
+-- How a command was answered, and which of BUSY and TASK SET FULL a host or guest may meet at all, however often.
 use Rattle.std.specs.Prelude.{ℕ, Bool, true, ◌==◌, not, IsTrue}
 use Rattle.pr_cdb.specs.declared.reply.Reply.{Reply}
+use Rattle.pr_cdb.specs.declared.reply.Status.{Status}
+use Rattle.pr_cdb.specs.declared.reply.Status.TheVariants as status
 use Rattle.pr_cdb.specs.declared.wire.Request.{Request}
 use Rattle.pr_unit.specs.UnitStates.{UnitState}
 use Rattle.pr_roles.specs.declared.how.How.{How}
@@ -10,6 +12,15 @@ use Rattle.pr_roles.specs.declared.how.Refusals.{Refusals}
 use Rattle.pr_roles.specs.Answers.{Answers, most_refusals}
 use Rattle.pr_roles.specs.Scenarios.{Scenario}
 
+-- how a command was answered, which its status tells
+abbrev pub how_of : Status → How
+how_of status.Good = how.Plain
+how_of status.CheckCondition = how.Plain
+how_of status.Conflict = how.Plain
+how_of status.Busy = how.Busy
+how_of status.TaskFull = how.Full
+
+-- a command may be answered so, where these refusals may be met
 abbrev pub is_among : Refusals → How → Bool
 is_among d how.Plain = true
 is_among d how.Busy = d.busy

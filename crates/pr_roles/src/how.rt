@@ -1,8 +1,8 @@
 //! How a command is answered.
 
 ghost use Rattle.std.specs.Prelude.{◌≡◌, ◌==◌, not};
-ghost use Rattle.pr_roles.specs.Answers.{how_of, is_refusal, most_of, status_of};
-ghost use Rattle.pr_roles.specs.DeclaredRefusals.{is_among};
+ghost use Rattle.pr_roles.specs.Answers.{is_refusal, most_of, status_of};
+ghost use Rattle.pr_roles.specs.DeclaredRefusals.{how_of, is_among};
 ghost use Rattle.pr_roles.specs.Scenarios.{nexus_of};
 
 use crate::parts::Nexus;
