@@ -1,13 +1,12 @@
 -- A set of numbers as the bits of a number, at each width.
 use mir.Val.{bits}
-use Rattle.std.proofs.Common.{◌≡◌, ◌≢◌, ◌⊎◌, inl, inr, ℕ, ◌-◌, ◌*◌, ◌/◌, ◌%◌, ◌^◌, ◌<◌, ◌≤◌, Bool, true, false, ◌==◌, ◌&&◌, ◌||◌, not, nat_lt, nat_le, min, refl, sym, ap, ◌∙◌, arith, bit_or, bit_and, lt-ltb, le-ltb, ltb-true}
-use Rattle.std.specs.Int.{Width, bit_at, bit_not}
+use Rattle.pr_sets.proofs.Common.{◌≡◌, ◌≢◌, ◌⊎◌, inl, inr, ℕ, ◌-◌, ◌*◌, ◌/◌, ◌%◌, ◌^◌, ◌<◌, ◌≤◌, Bool, true, false, ◌==◌, ◌&&◌, ◌||◌, not, nat_lt, nat_le, min, refl, sym, ap, ◌∙◌, arith, bit_and, bit_at, bit_not, nat_tests, eqb_tells, leb_tells, bit_at_above, bit_at_and, bit_at_not, bit_at-zero, bit_at-lt, same_from_bits_below, Numbers}
+use Rattle.std.proofs.Common.{bit_or, lt-ltb, le-ltb, ltb-true}
+use Rattle.std.specs.Int.{Width}
 use Rattle.std.specs.FinSet as set
-use Rattle.std.proofs.lemmas.Bool.Decides.{nat_tests, eqb_tells, leb_tells}
 use Rattle.std.proofs.lemmas.Nat.{pow_pos}
-use Rattle.std.proofs.lemmas.Nat.Bits.{bit_at_above, bit_at_and, bit_at_not, bit_at_set_same, bit_at_set_other, bit_at_clear_same, bit_at_clear_other, bit_at-zero, bit_at-lt, same_from_bits_below, shr_and_one}
+use Rattle.std.proofs.lemmas.Nat.Bits.{bit_at_set_same, bit_at_set_other, bit_at_clear_same, bit_at_clear_other, shr_and_one}
 use Rattle.std.proofs.Math.Bool.{and-false, and-or_distrib_left}
-use Rattle.pr_sets.specs.Numbers.{Numbers}
 use Rattle.pr_sets.specs.Kept.{numbers_where}
 use Rattle.pr_sets.proofs.lemmas.Members.{same_numbers, contains-empty, contains-insert, contains-remove, contains-difference, contains-union, contains-numbers_where}
 use Rattle.pr_sets.proofs.lemmas.WordBits.{has-or}

@@ -1,8 +1,5 @@
 -- The bits of a word, as the set of numbers that it stands for.
-use Rattle.std.proofs.Common.{◌≡◌, ℕ, ◌-◌, ◌*◌, ◌%◌, ◌^◌, ◌<◌, ◌≤◌, true, false, ◌==◌, ◌&&◌, not, nat_le, ap, ◌∙◌, inl, inr, ◌⊎◌, arith, bit_and}
-use Rattle.std.specs.Int.{w16, bit_at, trailing_zeros}
-use Rattle.std.proofs.lemmas.Bool.Decides.{nat_tests, leb_tells}
-use Rattle.std.proofs.lemmas.Nat.Bits.{bit_at-lt, bit_at_above, bit_at-trailing_zeros, same_from_bits_below}
+use Rattle.pr_sets.proofs.Common.{◌≡◌, ℕ, ◌-◌, ◌*◌, ◌%◌, ◌^◌, ◌<◌, ◌≤◌, true, false, ◌==◌, ◌&&◌, not, nat_le, ap, ◌∙◌, inl, inr, ◌⊎◌, arith, bit_and, w16, bit_at, trailing_zeros, nat_tests, leb_tells, bit_at-lt, bit_at_above, bit_at-trailing_zeros, same_from_bits_below}
 use Rattle.std.proofs.Math.Bool.{and_comm}
 use Rattle.pr_sets.specs.declared.bit_set.BitSet.{BitSet}
 use Rattle.pr_sets.specs.BitSets.{has, IsLeast}

@@ -1,13 +1,10 @@
 -- A set of numbers as the bits of a word.
-use Rattle.std.proofs.Common.{◌≡◌, ℕ, ◌+◌, ◌-◌, ◌/◌, ◌%◌, ◌^◌, ◌<◌, ◌≤◌, Bool, true, false, ◌==◌, nat_lt, min, refl, sym, ap, ◌∙◌, lit<, arith, bit_and}
-use Rattle.std.specs.Int.{w128, bit_at, bit_not, trailing_zeros}
+use Rattle.pr_sets.proofs.Common.{◌≡◌, ℕ, ◌+◌, ◌-◌, ◌/◌, ◌%◌, ◌^◌, ◌<◌, ◌≤◌, Bool, true, false, ◌==◌, nat_lt, min, refl, sym, ap, ◌∙◌, arith, bit_and, w128, bit_at, bit_not, trailing_zeros, nat_tests, bit_at_and, bit_at_not, bit_at-zero, bit_at-lt, bit_at_above, bit_at-trailing_zeros, same_from_bits_below, Has, Within, numbers_of_bits}
+use Rattle.std.proofs.Common.{lit<}
 use Rattle.std.proofs.lemmas.Bool.{and_parts, ltb-true}
-use Rattle.std.proofs.lemmas.Bool.Decides.{nat_tests}
 use Rattle.std.proofs.lemmas.Nat.{pow-add}
-use Rattle.std.proofs.lemmas.Nat.Bits.{bit_at_and, bit_at_not, bit_at-zero, bit_at-lt, bit_at_above, bit_at-trailing_zeros, same_from_bits_below}
 use Rattle.std.proofs.Math.Nat.{div-div-eq-div-mul}
-use Rattle.pr_sets.specs.Numbers.{Has, Within, IsNext, HasNoneFrom}
-use Rattle.pr_sets.specs.Kept.{numbers_of_bits}
+use Rattle.pr_sets.specs.Numbers.{IsNext, HasNoneFrom}
 use Rattle.pr_sets.proofs.lemmas.BitPlaces.{zero_from, contains-placed, contains-placed_below, contains-placed_clear}
 
 -- ---- one place and one bit

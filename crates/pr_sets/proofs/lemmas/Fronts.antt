@@ -1,10 +1,8 @@
 -- Tests that say of the numbers below a bound what another test says, and no of the rest.
-use Rattle.std.proofs.Common.{◌≡◌, ◌≢◌, ◌⊎◌, ℕ, ◌+◌, ◌<◌, Bool, true, false, ◌==◌, ◌&&◌, ◌||◌, nat_lt, sym, refl, ap, ◌∙◌, inl, inr, arith}
+use Rattle.pr_sets.proofs.Common.{◌≡◌, ◌≢◌, ◌⊎◌, ℕ, ◌+◌, ◌<◌, Bool, true, false, ◌==◌, ◌&&◌, ◌||◌, nat_lt, sym, refl, ap, ◌∙◌, inl, inr, arith, nat_tests, eqb_tells, Numbers}
 use Rattle.std.specs.FinSet as set
 use Rattle.std.proofs.lemmas.Bool.{lt-ltb, le-ltb}
-use Rattle.std.proofs.lemmas.Bool.Decides.{nat_tests, eqb_tells}
 use Rattle.std.proofs.Math.Bool.{and-false, and-true}
-use Rattle.pr_sets.specs.Numbers.{Numbers}
 use Rattle.pr_sets.proofs.lemmas.Members.{contains-insert}
 
 -- q says what p says of each number below n, and no of the others

@@ -1,7 +1,6 @@
 -- Inclusion as an order, and the union as its join.
-use Rattle.std.proofs.Common.{inl, inr, sym, ap, ◌∙◌}
+use Rattle.pr_sets.proofs.Common.{inl, inr, sym, ap, ◌∙◌, Numbers, Within}
 use Rattle.std.specs.FinSet as set
-use Rattle.pr_sets.specs.Numbers.{Numbers, Within}
 use Rattle.pr_sets.specs.Laws.{InclusionIsAnOrder, UnionIsTheLeastAbove, UnionKeepsWhatHasIt, EmptyIsTheLeast, InsertAddsOne}
 use Rattle.pr_sets.proofs.lemmas.Members.{same_numbers, same_from_within, contains-empty, of_either, Has-union_left, Has-union_right, of_insert, Has-insert_same, Has-insert_other}
 

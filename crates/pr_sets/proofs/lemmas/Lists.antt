@@ -1,5 +1,6 @@
 -- A set of numbers as a list that rises.
-use Rattle.std.proofs.Common.{◌≡◌, ◌≢◌, ◌⊎◌, inl, inr, ℕ, ◌+◌, ◌-◌, ◌<◌, ◌≤◌, Bool, true, false, ◌==◌, ◌&&◌, ◌||◌, nat_lt, Bor, Option, Some, None, is_some, IfSome, IfNone, Result, Ok, Err, is_ok, slice_get, List, [], ◌∷◌, ◌++◌, length, get_or, take, refl, sym, ap, subst, ◌∙◌, arith}
+use Rattle.pr_sets.proofs.Common.{◌≡◌, ◌≢◌, ◌⊎◌, inl, inr, ℕ, ◌+◌, ◌-◌, ◌<◌, ◌≤◌, Bool, true, false, ◌==◌, ◌&&◌, ◌||◌, nat_lt, List, length, refl, sym, ap, subst, ◌∙◌, arith, nat_tests, eqb_tells, Numbers, Has, Within, numbers_in}
+use Rattle.std.proofs.Common.{Bor, Option, Some, None, is_some, IfSome, IfNone, Result, Ok, Err, is_ok, slice_get, [], ◌∷◌, ◌++◌, get_or, take}
 use Rattle.std.specs.List.{insert, list_any, list_all}
 use Rattle.std.specs.List.Sorted.{IsStrictlyIncreasing, IsBinarySearchResult, IsPartitionPoint, IsPartitionedBy}
 use Rattle.std.specs.Ordering.{nat_cmp, eq_by_cmp}
@@ -8,7 +9,6 @@ use Rattle.std.specs.Option.{option_copied}
 use Rattle.std.specs.FinSet as set
 use Rattle.std.specs.FinSet.{nat_cmp-IsAntisymmetric}
 use Rattle.std.proofs.lemmas.Bool.{and_parts, cases_lt, cases_order, false_from_ne_true}
-use Rattle.std.proofs.lemmas.Bool.Decides.{nat_tests, eqb_tells}
 use Rattle.std.proofs.lemmas.List.{take_more, get_or_default}
 use Rattle.std.proofs.lemmas.List.Edits.{length-insert, get_or-insert_below, get_or-insert_at, get_or-insert_above}
 use Rattle.std.proofs.lemmas.List.Folds.{list_any_at}
@@ -17,8 +17,7 @@ use Rattle.std.proofs.lemmas.Option.{slice_get_within, slice_get_read, slice_get
 use Rattle.std.proofs.lemmas.Map.Keys.{sorted_from_strictly_increasing, non_decreasing_from_sorted}
 use Rattle.std.proofs.lemmas.Map.Views.{Contains-from_any}
 use Rattle.std.proofs.Math.Bool.{or-false}
-use Rattle.pr_sets.specs.Numbers.{Numbers, Has, Within, IsNext, HasNoneFrom}
-use Rattle.pr_sets.specs.Kept.{numbers_in}
+use Rattle.pr_sets.specs.Numbers.{IsNext, HasNoneFrom}
 use Rattle.pr_sets.proofs.lemmas.Members.{same_numbers, contains-empty, contains-insert, contains-union, of_insert, Has-insert_same, Has-insert_other}
 
 contains-numbers_in : (xs : List ℕ) (q : ℕ) → set.contains (numbers_in xs) q ≡ list_any (eq_by_cmp nat_cmp q) xs

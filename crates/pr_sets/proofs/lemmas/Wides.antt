@@ -1,9 +1,7 @@
 -- The bits of a wide word, as the set of numbers that it stands for.
-use Rattle.std.proofs.Common.{◌≡◌, ℕ, ◌+◌, ◌-◌, ◌*◌, ◌/◌, ◌%◌, ◌^◌, ◌<◌, Bool, true, false, ◌==◌, refl, sym, ap, ◌∙◌, arith}
-use Rattle.std.specs.Int.{w128, trailing_zeros, bit_at}
-use Rattle.std.proofs.lemmas.Nat.Bits.{bit_at-trailing_zeros, bit_at-zero, bit_at-lt, bit_at_cat_high, same_from_bits}
+use Rattle.pr_sets.proofs.Common.{◌≡◌, ℕ, ◌+◌, ◌-◌, ◌*◌, ◌/◌, ◌%◌, ◌^◌, ◌<◌, Bool, true, false, ◌==◌, refl, sym, ap, ◌∙◌, arith, w128, trailing_zeros, bit_at, bit_at-trailing_zeros, bit_at-zero, bit_at-lt, has_wide}
+use Rattle.std.proofs.lemmas.Nat.Bits.{bit_at_cat_high, same_from_bits}
 use Rattle.pr_sets.specs.declared.wide.Wide.{Wide}
-use Rattle.pr_sets.specs.Wides.{has_wide}
 use Rattle.pr_sets.specs.BitSets.{bit_set_size}
 use Rattle.pr_sets.proofs.lemmas.BitPlaces.{zero_from}
 

@@ -1,9 +1,9 @@
 -- Bits of what is reckoned from words of any width.
-use Rattle.std.proofs.Common.{◌≡◌, ◌≢◌, ℕ, ◌-◌, ◌*◌, ◌/◌, ◌%◌, ◌^◌, ◌<◌, ◌≤◌, true, false, ◌==◌, ◌&&◌, ◌||◌, not, nat_lt, nat_le, min, max, refl, sym, ap, ◌∙◌, inl, inr, ◌⊎◌, arith, bit_or, bit_and}
+use Rattle.pr_sets.proofs.Common.{◌≡◌, ◌≢◌, ℕ, ◌-◌, ◌*◌, ◌/◌, ◌%◌, ◌^◌, ◌<◌, ◌≤◌, true, false, ◌==◌, ◌&&◌, ◌||◌, not, nat_lt, nat_le, min, refl, sym, ap, ◌∙◌, inl, inr, ◌⊎◌, arith, bit_and, bit_at, nat_tests, eqb_tells, leb_tells, bit_at_and, bit_at_not, bit_at-zero, bit_at-lt, bit_at_above}
+use Rattle.std.proofs.Common.{max, bit_or}
 use mir.Val.{bits}
-use Rattle.std.specs.Int.{Width, bit_at}
-use Rattle.std.proofs.lemmas.Bool.Decides.{nat_tests, eqb_tells, leb_tells}
-use Rattle.std.proofs.lemmas.Nat.Bits.{bit_at_set_same, bit_at_set_other, bit_at_and, bit_at_or, bit_at_not, bit_at-zero, bit_at-lt, bit_at_above, bit_at_ones, bit_at_ones_above, ones_shr}
+use Rattle.std.specs.Int.{Width}
+use Rattle.std.proofs.lemmas.Nat.Bits.{bit_at_set_same, bit_at_set_other, bit_at_or, bit_at_ones, bit_at_ones_above, ones_shr}
 use Rattle.std.proofs.Math.Bool.{or_comm}
 
 pub has-and : (a b n : ℕ) → (bit_at (bit_and a b) n == 1) ≡ ((bit_at a n == 1) && (bit_at b n == 1))

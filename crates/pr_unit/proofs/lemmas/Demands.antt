@@ -1,15 +1,14 @@
 -- What an admitted command brings with it.
-use Rattle.pr_unit.proofs.Common.{◌≡◌, ℕ, ◌<◌, Bool, true, false, not, if◌then◌else◌, ◌==◌, Some, None, Option, sym, refl, arith, false≢true, nat_tests, Command}
+use Rattle.pr_unit.proofs.Common.{◌≡◌, ℕ, ◌<◌, Bool, true, false, not, if◌then◌else◌, ◌==◌, Some, None, Option, sym, refl, arith, false≢true, nat_tests, Command, Kind, command_conflicts}
 use Rattle.std.proofs.Common.{◌^◌, is_some}
 use Rattle.std.proofs.lemmas.Bool.{or_parts}
-use Rattle.pr_cdb.specs.declared.command.Kind.{Kind}
 use Rattle.pr_cdb.specs.declared.command.Command.TheVariants as command
 use Rattle.pr_cdb.specs.Ranges.{Fits}
 use Rattle.pr_registry.specs.Hosts.{is_key}
 use Rattle.pr_registry.specs.Registrations.{State, key_of, is_registered}
 use Rattle.pr_unit.specs.declared.demand.Demand.TheVariants.{Register, Unregister, PreemptAll, Preempt}
 use Rattle.pr_unit.specs.Demands.{Asked, demand_of, is_refused}
-use Rattle.pr_unit.specs.Conduct.{conduct, command_conflicts}
+use Rattle.pr_unit.specs.Conduct.{conduct}
 use Rattle.pr_unit.specs.inside.Readiness.{IsReady}
 
 -- what does not conflict is not refused, and nothing that stands keeps its sender from it

@@ -1,11 +1,9 @@
-use Rattle.pr_regions.proofs.Common.{ℕ, ◌≡◌, ◌≢◌, ◌<◌, ◌==◌, Bool, true, false, List, refl, unwrap_or, length, subst, sym, ◌⊎◌, inl, inr, ◌≤◌, ◌∙◌, arith, false≢true, nat_tests, BitSet, has, Transition}
+use Rattle.pr_regions.proofs.Common.{ℕ, ◌≡◌, ◌≢◌, ◌<◌, ◌==◌, Bool, true, false, List, refl, unwrap_or, length, subst, sym, ◌⊎◌, inl, inr, ◌≤◌, ◌∙◌, arith, false≢true, nat_tests, BitSet, has, Transition, MOST_NEXUSES, has_at, holds_at-get_or, IsImage}
 use Rattle.std.proofs.Common.{slice_index_or}
 use Rattle.std.proofs.lemmas.Bool.{cases_lt}
 use Rattle.std.proofs.lemmas.List.{length-set}
-use Rattle.pr_cdb.specs.declared.codes.TheConstants.{MOST_NEXUSES}
-use Rattle.pr_views.specs.Portions.{has_at}
-use Rattle.pr_views.proofs.lemmas.Rooms.Places.{holds_at-get_or, holds_at_past}
-use Rattle.pr_regions.specs.Images.{IsImage, registration_left, becomes}
+use Rattle.pr_views.proofs.lemmas.Rooms.Places.{holds_at_past}
+use Rattle.pr_regions.specs.Images.{registration_left, becomes}
 use Rattle.pr_regions.proofs.lemmas.Images.Elements.{images_more}
 use Rattle.pr_regions.proofs.changed.registrations_after.Goals.{then-host-from, else-host-from}
 use Rattle.pr_regions.proofs.changed.registrations_after.Goals as goal

@@ -1,7 +1,5 @@
-use Rattle.pr_regions.proofs.Common.{◌≡◌, ◌<◌, ℕ, length}
-use Rattle.pr_cdb.specs.declared.codes.TheConstants.{MOST_NEXUSES}
-use Rattle.pr_views.specs.Portions.{has_at}
-use Rattle.pr_regions.specs.Images.{IsImage, becomes}
+use Rattle.pr_regions.proofs.Common.{◌≡◌, ◌<◌, ℕ, length, MOST_NEXUSES, has_at, IsImage}
+use Rattle.pr_regions.specs.Images.{becomes}
 use Rattle.pr_regions.proofs.changed.registrations_after.Given as goal
 
 abbrev pub invariant-loop-host : goal.invariant-loop-host

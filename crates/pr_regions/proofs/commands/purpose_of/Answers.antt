@@ -1,9 +1,5 @@
-use Rattle.pr_regions.proofs.Common.{◌≡◌, ℕ, ◌≤◌, true, List, refl, sym, ◌∙◌, subst, number_in, MOST_KEYS}
+use Rattle.pr_regions.proofs.Common.{◌≡◌, ℕ, ◌≤◌, true, List, refl, sym, ◌∙◌, subst, number_in, MOST_KEYS, Some, option_map_or, Command, is_declared}
 use Rattle.pr_unit.specs.declared.demand.Demand.TheVariants.{Register, Preempt}
-use Rattle.std.proofs.Common.{Some}
-use Rattle.std.specs.Option.{option_map_or}
-use Rattle.pr_cdb.specs.declared.command.Command.{Command}
-use Rattle.pr_script.specs.Grammar.{is_declared}
 use Rattle.pr_unit.specs.Demands.{Asked, demand_of, named}
 use Rattle.pr_regions.specs.Purposes.{names_declared}
 use Rattle.pr_regions.proofs.lemmas.Purposes.Conduct.{declared_number}

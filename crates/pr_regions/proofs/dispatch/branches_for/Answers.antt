@@ -1,4 +1,3 @@
-use Rattle.pr_regions.proofs.Common.{}
 use Rattle.pr_unit.specs.declared.demand.Demand.TheVariants.{Read, Write, Look, Register, Reserve, Release, Clear, PreemptAll}
 use Rattle.pr_regions.proofs.dispatch.branches_for.Goals as goal
 

@@ -1,4 +1,3 @@
-use Rattle.pr_regions.proofs.Common.{}
 use Rattle.pr_unit.specs.declared.demand.Demand.TheVariants.{Read, Write}
 use Rattle.pr_regions.proofs.lemmas.Parts.Transfers.{is_read, is_write, move_conflicts, move_fails, move_goes}
 use Rattle.pr_regions.proofs.endings.transfer_ending.Goals as goal

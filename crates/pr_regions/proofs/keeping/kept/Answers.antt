@@ -1,12 +1,4 @@
-use Rattle.pr_regions.proofs.Common.{◌≡◌, ℕ, ◌+◌, ◌<◌, false, sym, ◌∙◌, subst, arith, false≢true, has, Scope, IsSo, Registration}
-use Rattle.pr_sets.specs.Wides.{has_wide}
-use Rattle.pr_views.specs.declared.possibilities.Possibilities.{Possibilities}
-use Rattle.pr_views.specs.Possibilities.{Item, Reservation, Attentions, count_of_reservations}
-use Rattle.pr_views.specs.Views.{IsPossible, Shows}
-use Rattle.pr_views.specs.Portions.{has_at, view_in}
-use Rattle.pr_regions.specs.inside.Adding.{Adds}
-use Rattle.pr_regions.specs.inside.Showing.{IsShownBelow}
-use Rattle.pr_regions.specs.Keeping.{IsShownSo}
+use Rattle.pr_regions.proofs.Common.{◌≡◌, ℕ, ◌+◌, ◌<◌, false, sym, ◌∙◌, subst, arith, false≢true, has, Scope, IsSo, Registration, has_wide, Possibilities, Item, Reservation, Attentions, count_of_reservations, IsPossible, Shows, has_at, view_in, Adds, IsShownBelow, IsShownSo}
 use Rattle.pr_regions.proofs.lemmas.Showing.ShownStates.{adds_place, below_more, below_skips, is_kept, is_place, none_uniform, keys_uniform}
 use Rattle.pr_regions.proofs.keeping.kept.Goals.{then-has, else-has}
 use Rattle.pr_regions.proofs.keeping.kept.Goals as goal

@@ -1,9 +1,5 @@
-use Rattle.pr_regions.proofs.Common.{◌≡◌, Scope}
+use Rattle.pr_regions.proofs.Common.{◌≡◌, Scope, view_in, Adds, IsShownBelow, IsShownSo}
 use Rattle.pr_views.specs.Views.{Fits}
-use Rattle.pr_views.specs.Portions.{view_in}
-use Rattle.pr_regions.specs.inside.Adding.{Adds}
-use Rattle.pr_regions.specs.inside.Showing.{IsShownBelow}
-use Rattle.pr_regions.specs.Keeping.{IsShownSo}
 use Rattle.pr_regions.proofs.keeping.kept.Given as goal
 
 abbrev pub invariant-loop-reservation : goal.invariant-loop-reservation

@@ -1,8 +1,5 @@
 -- A condition holds of a nexus of a state as it does of a sender.
-use Rattle.std.proofs.Common.{◌≡◌, ℕ, Option, Some, None, refl}
-use Rattle.pr_registry.specs.declared.held.Held.{Held}
-use Rattle.pr_registry.specs.declared.held.Held.TheVariants.{One, All}
-use Rattle.pr_registry.specs.Registrations.{State, is_registered}
+use Rattle.pr_regions.proofs.Common.{◌≡◌, ℕ, Option, Some, None, refl, Held, One, All, State, is_registered}
 use Rattle.pr_roles.specs.declared.role.Condition.{Condition}
 use Rattle.pr_roles.specs.declared.role.Condition.TheVariants as condition
 use Rattle.pr_roles.specs.Permits.{holds}

@@ -1,9 +1,7 @@
 -- Images of sets of numbers, at each place of a list.
-use Rattle.pr_regions.proofs.Common.{◌≡◌, ◌≢◌, ℕ, ◌+◌, ◌<◌, true, false, ◌==◌, List, length, sym, ◌∙◌, subst, inl, inr, ◌⊎◌, arith, eqb_tells, BitSet, has}
+use Rattle.pr_regions.proofs.Common.{◌≡◌, ◌≢◌, ℕ, ◌+◌, ◌<◌, true, false, ◌==◌, List, length, sym, ◌∙◌, subst, inl, inr, ◌⊎◌, arith, eqb_tells, BitSet, has, has_at, holds_at_kept, IsImage}
 use Rattle.std.proofs.Common.{slice_set}
-use Rattle.pr_views.specs.Portions.{has_at}
-use Rattle.pr_views.proofs.lemmas.Rooms.Places.{holds_at_written, holds_at_kept}
-use Rattle.pr_regions.specs.Images.{IsImage}
+use Rattle.pr_views.proofs.lemmas.Rooms.Places.{holds_at_written}
 
 -- ---- images at each place
 

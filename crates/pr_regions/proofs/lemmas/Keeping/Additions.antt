@@ -1,12 +1,7 @@
 -- What is added to possibilities, step by step.
-use Rattle.pr_regions.proofs.Common.{◌≡◌, ℕ, true, ◌||◌, sym, ◌∙◌, inl, inr, ◌⊎◌, UnitState, has, Scope, Registration}
+use Rattle.pr_regions.proofs.Common.{◌≡◌, ℕ, true, ◌||◌, sym, ◌∙◌, inl, inr, ◌⊎◌, UnitState, has, Scope, Registration, has_wide, Possibilities, Item, Reservation, Attentions, IsPossible, has_at, view_in, Adds}
 use Rattle.std.proofs.lemmas.Bool.{or_left, or_right, or_cases}
-use Rattle.pr_sets.specs.Wides.{has_wide}
-use Rattle.pr_views.specs.declared.possibilities.Possibilities.{Possibilities}
-use Rattle.pr_views.specs.Possibilities.{Item, Reservation, Attentions}
-use Rattle.pr_views.specs.Views.{IsPossible}
-use Rattle.pr_views.specs.Portions.{has_at, view_in}
-use Rattle.pr_regions.specs.inside.Adding.{Allows, Adds}
+use Rattle.pr_regions.specs.inside.Adding.{Allows}
 
 pub grown : (s : Scope) (p q : Possibilities) (u : UnitState) → ((i : Item) → IsPossible (view_in s p) i → IsPossible (view_in s q) i) → Allows s p u → Allows s q u
 grown s p q u grows allows = record { items = λ i so. grows i (allows.items i so); numbered = allows.numbered; pending = allows.pending }

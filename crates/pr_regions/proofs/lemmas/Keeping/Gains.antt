@@ -1,11 +1,6 @@
 -- Possibilities that others are without.
-use Rattle.pr_regions.proofs.Common.{◌≡◌, ◌≢◌, ℕ, ◌+◌, ◌<◌, true, false, ◌==◌, List, length, sym, ◌∙◌, subst, inl, inr, ◌⊎◌, arith, false≢true, eqb_tells, BitSet, has, Scope, Registration}
+use Rattle.pr_regions.proofs.Common.{◌≡◌, ◌≢◌, ℕ, ◌+◌, ◌<◌, true, false, ◌==◌, List, length, sym, ◌∙◌, subst, inl, inr, ◌⊎◌, arith, false≢true, eqb_tells, BitSet, has, Scope, Registration, has_wide, Possibilities, Reservation, Attentions, has_at, holds_at-get_or}
 use Rattle.std.proofs.Common.{slice_index_or}
-use Rattle.pr_sets.specs.Wides.{has_wide}
-use Rattle.pr_views.specs.declared.possibilities.Possibilities.{Possibilities}
-use Rattle.pr_views.specs.Possibilities.{Reservation, Attentions}
-use Rattle.pr_views.specs.Portions.{has_at}
-use Rattle.pr_views.proofs.lemmas.Rooms.Places.{holds_at-get_or}
 use Rattle.pr_regions.specs.Keeping.{IsNew}
 
 -- ---- gains

@@ -1,9 +1,6 @@
 -- Branches that tell how a command ends, by their regions.
-use Rattle.pr_regions.proofs.Common.{◌≡◌, ℕ, zero, suc, ◌<◌, ◌≤◌, Bool, true, false, ◌≢◌, ◌⊎◌, List, [], ◌∷◌, length, if◌then◌else◌, ◌==◌, Some, None, Option, option_map, sym, refl, ap, ◌∙◌, subst, inl, inr, arith, eqb_tells, has, BitSet, Command, Held, One, UnitState, HasSomebody, Scope, IsScope, Registration, IsSo, Meets, IsInRegion, IsCovered, Purpose, Standing, Branch, AlwaysEnds, any, Leaves, EndsIn, Tell, MOST_KEYS}
-use Rattle.std.specs.List.{All as Each, Contains}
-use Rattle.pr_views.proofs.lemmas.Possibilities.Numbers.{one_registration}
-use Rattle.pr_regions.specs.declared.region.Region.{Region}
-use Rattle.pr_regions.specs.Regions.{filter_of, IsUntestedOrRegistered}
+use Rattle.pr_regions.proofs.Common.{◌≡◌, ℕ, zero, suc, ◌<◌, ◌≤◌, Bool, true, false, ◌≢◌, ◌⊎◌, List, [], ◌∷◌, length, if◌then◌else◌, ◌==◌, Some, None, Option, option_map, sym, refl, ap, ◌∙◌, subst, inl, inr, arith, eqb_tells, has, BitSet, Command, Held, One, UnitState, HasSomebody, Scope, IsScope, Registration, IsSo, Meets, IsInRegion, IsCovered, Purpose, Standing, Branch, AlwaysEnds, any, Leaves, EndsIn, Tell, MOST_KEYS, Contains, one_registration, Region, filter_of, IsUntestedOrRegistered}
+use Rattle.std.specs.List.{All as Each}
 use Rattle.pr_regions.specs.inside.Parts.{IsTest}
 use Rattle.pr_regions.proofs.lemmas.Portions.GatheredStates.{few_keys}
 

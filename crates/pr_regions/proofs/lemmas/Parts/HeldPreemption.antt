@@ -1,9 +1,7 @@
 -- The branches of a command that preempts a key while another host holds the reservation alone.
-use Rattle.pr_regions.proofs.Common.{◌≡◌, ℕ, ◌<◌, Bool, true, false, not, ◌≢◌, ◌⊎◌, [], ◌∷◌, is_some, if◌then◌else◌, IsTrue, ◌==◌, Some, None, Option, sym, refl, ap, ◌∙◌, subst, inl, inr, arith, not-true, false≢true, nat_tests, Command, Kind, is_kind, held_by_rest, is_key, Keys, key_of, new_reservation, Held, One, UnitState, HasSomebody, Scope, number_of, Registration, IsSo, HasNumber, Meets, HasRoom, IsInRegion, IsCovered, Standing, Branch, Transition, Conflict, Good, Does, any, only, is_of_registrant, but, another, told_but, lost_if, is_named, Leaves, EndsIn, Tell, eq-eqb, tells_of_removal, tells_of_replacement}
+use Rattle.pr_regions.proofs.Common.{◌≡◌, ℕ, ◌<◌, Bool, true, false, not, ◌≢◌, ◌⊎◌, [], ◌∷◌, is_some, if◌then◌else◌, IsTrue, ◌==◌, Some, None, Option, sym, refl, ap, ◌∙◌, subst, inl, inr, arith, not-true, false≢true, nat_tests, Command, Kind, is_kind, held_by_rest, is_key, Keys, key_of, new_reservation, Held, One, UnitState, HasSomebody, Scope, number_of, Registration, IsSo, HasNumber, Meets, HasRoom, IsInRegion, IsCovered, Standing, Branch, Transition, Conflict, Good, Does, any, only, is_of_registrant, but, another, told_but, lost_if, is_named, Leaves, EndsIn, Tell, eq-eqb, tells_of_removal, tells_of_replacement, HasHolder, one_registration}
 use Rattle.pr_unit.specs.declared.demand.Demand.TheVariants.{Preempt}
 use Rattle.std.specs.FinMap as map
-use Rattle.pr_registry.specs.Registrations.{HasHolder}
-use Rattle.pr_views.proofs.lemmas.Possibilities.Numbers.{one_registration}
 use Rattle.pr_regions.proofs.lemmas.Purposes.Conduct.{key_named}
 use Rattle.pr_regions.proofs.lemmas.Regions.Effects.{is_registered-number}
 use Rattle.pr_regions.proofs.lemmas.Parts.Branches.{left_to, in_region, from_region, HasNobody, somebody_or_nobody, each_of_two, each_of_three, untested, tested, tell}

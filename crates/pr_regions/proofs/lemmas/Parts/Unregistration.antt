@@ -1,12 +1,11 @@
 -- How a command ends by which its sender is registered no more.
-use Rattle.pr_regions.proofs.Common.{◌≡◌, ℕ, zero, suc, ◌<◌, Bool, true, false, not, ◌&&◌, ◌≢◌, ◌⊎◌, [], ◌∷◌, is_some, if◌then◌else◌, ◌==◌, Some, None, Option, sym, refl, ap, ◌∙◌, subst, inl, inr, arith, false≢true, eqb_tells, Command, no_change, is_held_by_all, change_on_unregister, is_told_of_loss, held_by_rest, without, is_empty, State, is_registered, key_of, Held, One, All, get-without, UnitState, HasSomebody, Scope, number_of, Registration, IsSo, Meets, HasRoom, IsCovered, Ends, Purpose, Standing, Branch, Transition, Good, Does, AlwaysEnds, never, is_unregistered, any, only, is_of_registrant, told_if, Leaves, EndsIn, Tell, ne_eqb, tells_nobody, tells_of_loss}
+use Rattle.pr_regions.proofs.Common.{◌≡◌, ℕ, zero, suc, ◌<◌, Bool, true, false, not, ◌&&◌, ◌≢◌, ◌⊎◌, [], ◌∷◌, is_some, if◌then◌else◌, ◌==◌, Some, None, Option, sym, refl, ap, ◌∙◌, subst, inl, inr, arith, false≢true, eqb_tells, Command, no_change, is_held_by_all, change_on_unregister, is_told_of_loss, held_by_rest, without, is_empty, State, is_registered, key_of, Held, One, All, get-without, UnitState, HasSomebody, Scope, number_of, Registration, IsSo, Meets, HasRoom, IsCovered, Ends, Purpose, Standing, Branch, Transition, Good, Does, AlwaysEnds, never, is_unregistered, any, only, is_of_registrant, told_if, Leaves, EndsIn, Tell, ne_eqb, tells_nobody, tells_of_loss, holds_alone, is_empty_from_none}
 use Rattle.pr_unit.specs.declared.demand.Demand.TheVariants.{Unregister}
 use Rattle.std.specs.FinMap as map
 use Rattle.std.proofs.lemmas.Bool.{not-false}
 use Rattle.pr_registry.specs.Hosts.{just}
-use Rattle.pr_registry.specs.Registrations.{holds_alone}
 use Rattle.pr_registry.specs.Effects.{without_registration}
-use Rattle.pr_registry.proofs.lemmas.Sets.{contains-just, is_empty_from_none, not_empty_from_some}
+use Rattle.pr_registry.proofs.lemmas.Sets.{contains-just, not_empty_from_some}
 use Rattle.pr_views.proofs.lemmas.Possibilities.Numbers.{key_there}
 use Rattle.pr_regions.proofs.lemmas.Purposes.Conduct.{after_for, change_for}
 use Rattle.pr_regions.proofs.lemmas.Regions.Effects.{Becomes, on_unregister, is_registered-number}

@@ -1,24 +1,17 @@
 -- The portion of a view that stands for a region: it has the states of the region, and no other.
-use Rattle.pr_regions.proofs.Common.{◌≡◌, ◌≢◌, ℕ, zero, suc, ◌<◌, ◌≤◌, Bool, true, false, not, ◌==◌, ◌&&◌, nat_lt, nat_le, if◌then◌else◌, IsTrue, List, length, Option, Some, None, is_some, option_map, refl, sym, ap, ◌∙◌, subst, inl, inr, ◌⊎◌, arith, false≢true, nat_tests, eqb_tells, Held, One, All, Keys, is_empty, is_held_by_all, UnitState, BitSet, has, Scope, Registration, IsSo, number_of, HasSomebody, MOST_KEYS}
+use Rattle.pr_regions.proofs.Common.{◌≡◌, ◌≢◌, ℕ, zero, suc, ◌<◌, ◌≤◌, Bool, true, false, not, ◌==◌, ◌&&◌, nat_lt, nat_le, if◌then◌else◌, IsTrue, List, length, Option, Some, None, is_some, option_map, refl, sym, ap, ◌∙◌, subst, inl, inr, ◌⊎◌, arith, false≢true, nat_tests, eqb_tells, Held, One, All, Keys, is_empty, is_held_by_all, UnitState, BitSet, has, Scope, Registration, IsSo, number_of, HasSomebody, MOST_KEYS, and_parts, holds_alone, HasHolder, is_empty_from_none, has_wide, Possibilities, Reservation, Shows, has_at, view_in, one_registration, Region, IsUntestedOrRegistered, filter_of, Place}
 use Rattle.std.proofs.Common.{IfNone}
 use Rattle.std.specs.FinMap as map
-use Rattle.std.proofs.lemmas.Bool.{and_parts, and_from, ltb-true, leb-true}
+use Rattle.std.proofs.lemmas.Bool.{and_from, ltb-true, leb-true}
 use Rattle.std.proofs.lemmas.Option.{none-some}
 use Rattle.std.proofs.Math.Bool.{and-false}
-use Rattle.pr_registry.specs.Registrations.{holds_alone, HasHolder, is_all}
-use Rattle.pr_registry.proofs.lemmas.Sets.{is_empty_from_none}
+use Rattle.pr_registry.specs.Registrations.{is_all}
 use Rattle.pr_unit.specs.UnitStates.{IsWellFormed}
 use Rattle.pr_roles.specs.Fitting.{is_reservation, AreDeclared, are_distinct}
-use Rattle.pr_sets.specs.Wides.{has_wide}
 use Rattle.pr_views.specs.declared.portion.Portion.{Portion}
-use Rattle.pr_views.specs.declared.possibilities.Possibilities.{Possibilities}
-use Rattle.pr_views.specs.Possibilities.{Reservation}
-use Rattle.pr_views.specs.Views.{IsSeen, Shows}
-use Rattle.pr_views.specs.Portions.{has_at, view_in, TestsRegistered, IsPortion, IsIn, GivesHolder}
-use Rattle.pr_views.proofs.lemmas.Possibilities.Numbers.{same_held, reservation_of, one_registration}
-use Rattle.pr_regions.specs.declared.region.Region.{Region}
-use Rattle.pr_regions.specs.Regions.{IsUntestedOrRegistered, filter_of}
-use Rattle.pr_regions.specs.declared.place.Place.{Place}
+use Rattle.pr_views.specs.Views.{IsSeen}
+use Rattle.pr_views.specs.Portions.{TestsRegistered, IsPortion, IsIn, GivesHolder}
+use Rattle.pr_views.proofs.lemmas.Possibilities.Numbers.{same_held, reservation_of}
 use Rattle.pr_regions.specs.Gathering.{IsPlace, IsUniform, IsProper, IsAt}
 use Rattle.pr_regions.specs.inside.Portions.{passes, IsLeftTo, HasTest}
 

@@ -1,13 +1,8 @@
 -- Words in an array.
-use Rattle.pr_regions.proofs.Common.{◌≡◌, ◌≢◌, ℕ, ◌+◌, ◌<◌, ◌≤◌, Bool, true, false, ◌==◌, ◌&&◌, not, if◌then◌else◌, List, length, Option, Some, None, refl, sym, ap, ◌∙◌, subst, inl, inr, ◌⊎◌, arith, eqb_tells, Held, One, All, BitSet, has}
+use Rattle.pr_regions.proofs.Common.{◌≡◌, ◌≢◌, ℕ, ◌+◌, ◌<◌, ◌≤◌, Bool, true, false, ◌==◌, ◌&&◌, not, if◌then◌else◌, List, length, Option, Some, None, refl, sym, ap, ◌∙◌, subst, inl, inr, ◌⊎◌, arith, eqb_tells, Held, One, All, BitSet, has, holds_alone, has_at, holds_at_kept, Region, filter_of, Place}
 use Rattle.std.proofs.Common.{slice_set}
 use Rattle.std.proofs.Math.Bool.{and-true}
-use Rattle.pr_registry.specs.Registrations.{holds_alone}
-use Rattle.pr_views.specs.Portions.{has_at}
-use Rattle.pr_views.proofs.lemmas.Rooms.Places.{holds_at_written, holds_at_kept}
-use Rattle.pr_regions.specs.declared.region.Region.{Region}
-use Rattle.pr_regions.specs.Regions.{filter_of}
-use Rattle.pr_regions.specs.declared.place.Place.{Place}
+use Rattle.pr_views.proofs.lemmas.Rooms.Places.{holds_at_written}
 use Rattle.pr_regions.specs.inside.Portions.{passes}
 
 -- the words below i are as they should be, and then this one is

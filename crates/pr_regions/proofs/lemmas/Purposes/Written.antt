@@ -1,11 +1,9 @@
 -- What a text can write has a purpose, and names declared keys alone.
-use Rattle.pr_regions.proofs.Common.{◌≡◌, ℕ, Bool, true, ◌||◌, List, is_some, if◌then◌else◌, IsTrue, ◌==◌, Some, None, Option, refl, false, false≢true, Command, Kind}
+use Rattle.pr_regions.proofs.Common.{◌≡◌, ℕ, Bool, true, ◌||◌, List, is_some, if◌then◌else◌, IsTrue, ◌==◌, Some, None, Option, refl, false, false≢true, Command, Kind, option_map_or, and_parts, is_declared}
 use Rattle.pr_unit.specs.declared.demand.Demand.TheVariants.{Register, Unregister, PreemptAll, Preempt}
-use Rattle.std.specs.Option.{option_map_or}
-use Rattle.std.proofs.lemmas.Bool.{and_parts}
 use Rattle.pr_cdb.specs.declared.command.Command.TheVariants as command
 use Rattle.pr_unit.specs.Demands.{named}
-use Rattle.pr_script.specs.Grammar.{is_declared, is_written_key, is_written}
+use Rattle.pr_script.specs.Grammar.{is_written_key, is_written}
 use Rattle.pr_regions.specs.Purposes.{numbered, purpose_of, names_declared}
 
 -- ---- a purpose

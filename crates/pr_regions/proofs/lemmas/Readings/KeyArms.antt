@@ -1,18 +1,14 @@
 -- Which arm takes the data of READ KEYS, one arm after another.
-use Rattle.pr_regions.proofs.Common.{◌≡◌, ℕ, ◌+◌, ◌<◌, ◌≤◌, Bool, true, false, cond, not, ◌&&◌, ◌≢◌, ◌⊎◌, List, [], ◌∷◌, ◌++◌, length, get_or, if◌then◌else◌, nat_lt, ◌==◌, Some, None, Option, sym, refl, ap, ◌∙◌, subst, inl, inr, arith, position, not-true, has, BitSet, Command, Held, UnitState, matches, HasSomebody, Scope, IsScope, Registration, IsSo, IsInRegion, any, only, IsKnown, answer, MOST_KEYS, get_or_default}
+use Rattle.pr_regions.proofs.Common.{◌≡◌, ℕ, ◌+◌, ◌<◌, ◌≤◌, Bool, true, false, cond, not, ◌&&◌, ◌≢◌, ◌⊎◌, List, [], ◌∷◌, ◌++◌, length, get_or, if◌then◌else◌, nat_lt, ◌==◌, Some, None, Option, sym, refl, ap, ◌∙◌, subst, inl, inr, arith, position, not-true, has, BitSet, Command, Held, UnitState, matches, HasSomebody, Scope, IsScope, Registration, IsSo, IsInRegion, any, only, IsKnown, answer, MOST_KEYS, get_or_default, Contains, and_parts, One, Region, filter_of, HasThose}
 use Rattle.std.proofs.Common.{below_more}
-use Rattle.std.specs.List.{Contains}
-use Rattle.std.proofs.lemmas.Bool.{and_parts, lt-ltb, le-ltb}
+use Rattle.std.proofs.lemmas.Bool.{lt-ltb, le-ltb}
 use Rattle.std.proofs.lemmas.List.Sums.{position_or_len_is}
 use Rattle.std.proofs.lemmas.List.Elements.{Contains-push, Contains-push_cases, Contains-append_left}
-use Rattle.pr_registry.specs.declared.held.Held.TheVariants.{One, All as Everybody}
+use Rattle.pr_registry.specs.declared.held.Held.TheVariants.{All as Everybody}
 use Rattle.pr_script.specs.declared.script.Test.{Test}
-use Rattle.pr_regions.specs.declared.region.Region.{Region}
 use Rattle.pr_regions.specs.declared.region.Reading.{Reading}
 use Rattle.pr_regions.specs.declared.key_reads.Ask.TheVariants.{Always, Never, Somebody}
-use Rattle.pr_regions.specs.Regions.{filter_of}
 use Rattle.pr_regions.specs.Readings.{first_test, IsRead, AreReadings}
-use Rattle.pr_regions.specs.Transitions.{HasThose}
 use Rattle.pr_regions.specs.inside.Reads.{HasNobody, IsAsked, open_to, AreReadSoFar}
 use Rattle.pr_regions.proofs.lemmas.Parts.Branches.{somebody_or_none}
 use Rattle.pr_regions.proofs.lemmas.Portions.GatheredStates.{few_keys}

@@ -1,9 +1,9 @@
 -- What a test of READ KEYS asks of the others' registrations.
-use Rattle.pr_regions.proofs.Common.{◌≡◌, ℕ, ◌<◌, ◌≤◌, true, false, ◌≢◌, ◌⊎◌, List, length, ◌==◌, Some, Option, sym, refl, ap, ◌∙◌, subst, inl, inr, arith, false≢true, nat_tests, eqb_tells, ReadKeys, key_of, Held, UnitState, matches, WRITTEN_LENGTH, HasSomebody, Scope, key_at, Registration, IsSo, number_in, only, IsKnown, answer}
+use Rattle.pr_regions.proofs.Common.{◌≡◌, ℕ, ◌<◌, ◌≤◌, true, false, ◌≢◌, ◌⊎◌, List, length, ◌==◌, Some, Option, sym, refl, ap, ◌∙◌, subst, inl, inr, arith, false≢true, nat_tests, eqb_tells, ReadKeys, key_of, Held, UnitState, matches, WRITTEN_LENGTH, HasSomebody, Scope, key_at, Registration, IsSo, number_in, only, IsKnown, answer, one_registration}
 use Rattle.pr_registry.proofs.lemmas.Contents.{key_read, key_not_read}
 use Rattle.pr_script.specs.declared.script.Test.TheVariants.{GoodHas}
 use Rattle.pr_script.specs.Grammar.{test_fits}
-use Rattle.pr_views.proofs.lemmas.Possibilities.Numbers.{once_of, same_registration, one_registration}
+use Rattle.pr_views.proofs.lemmas.Possibilities.Numbers.{once_of, same_registration}
 use Rattle.pr_regions.specs.inside.Reads.{HasNobody}
 use Rattle.pr_regions.proofs.lemmas.Purposes.Conduct.{number_named, declared_number}
 

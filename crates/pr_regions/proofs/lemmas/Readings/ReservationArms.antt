@@ -1,21 +1,20 @@
 -- Which arm takes the data of READ RESERVATION.
-use Rattle.pr_regions.proofs.Common.{◌≡◌, ℕ, zero, suc, ◌+◌, ◌<◌, ◌≤◌, Bool, true, false, cond, not, ◌≢◌, ◌⊎◌, List, [], ◌∷◌, ◌++◌, length, get_or, is_some, is_none, if◌then◌else◌, IsTrue, nat_lt, ◌==◌, Some, None, Option, option_map, unwrap_or, sym, refl, ap, ◌∙◌, subst, inl, inr, arith, lit<, position, false≢true, nat_tests, eqb_tells, Command, Kind, is_key, State, key_of, Held, UnitState, matches, WRITTEN_LENGTH, Scope, key_at, Registration, IsSo, IsInRegion, any, only, is_of_registrant, Leaves, IsKnown, answer, eq-eqb}
-use Rattle.std.specs.List.{All, Contains, prefix_len}
+use Rattle.pr_regions.proofs.Common.{◌≡◌, ℕ, zero, suc, ◌+◌, ◌<◌, ◌≤◌, Bool, true, false, cond, not, ◌≢◌, ◌⊎◌, List, [], ◌∷◌, ◌++◌, length, get_or, is_some, is_none, if◌then◌else◌, IsTrue, nat_lt, ◌==◌, Some, None, Option, option_map, unwrap_or, sym, refl, ap, ◌∙◌, subst, inl, inr, arith, lit<, position, false≢true, nat_tests, eqb_tells, Command, Kind, is_key, State, key_of, Held, UnitState, matches, WRITTEN_LENGTH, Scope, key_at, Registration, IsSo, IsInRegion, any, only, is_of_registrant, Leaves, IsKnown, answer, eq-eqb, Contains, One, HasHolder, one_registration}
+use Rattle.std.specs.List.{All, prefix_len}
 use Rattle.std.proofs.lemmas.Option.{slice_get-get_or}
 use Rattle.std.proofs.lemmas.List.Elements.{Contains-push, Contains-push_cases, Contains-append_left}
 use Rattle.std.proofs.Common.{◌^◌}
 use Rattle.pr_cdb.specs.declared.command.Command.TheVariants.{ReadReservation}
 use Rattle.pr_cdb.specs.ReplyData.{holder}
 use Rattle.pr_cdb.specs.inside.KeyWidths.{HasKey}
-use Rattle.pr_registry.specs.declared.held.Held.TheVariants.{One, All as Everybody}
-use Rattle.pr_registry.specs.Registrations.{HasHolder, IsWellFormed}
+use Rattle.pr_registry.specs.declared.held.Held.TheVariants.{All as Everybody}
+use Rattle.pr_registry.specs.Registrations.{IsWellFormed}
 use Rattle.pr_registry.proofs.lemmas.Contents.{holder_read}
 use Rattle.pr_unit.specs.Replies.{reservation}
 use Rattle.pr_script.specs.declared.script.Test.{Test}
 use Rattle.pr_script.specs.declared.script.Test.TheVariants as test
 use Rattle.pr_script.specs.Grammar.{test_fits}
 use Rattle.pr_script.specs.Takes.{is_held_by, is_unheld}
-use Rattle.pr_views.proofs.lemmas.Possibilities.Numbers.{one_registration}
 use Rattle.pr_regions.specs.declared.region.Reading.{Reading}
 use Rattle.pr_regions.specs.Readings.{first_test, IsRead, AreReadings}
 use Rattle.pr_regions.specs.inside.Reads.{passes_held, AreHeldSoFar}

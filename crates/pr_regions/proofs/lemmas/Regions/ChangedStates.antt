@@ -1,8 +1,7 @@
 -- What becomes of a state, by what a change says, registration by registration.
-use Rattle.pr_regions.proofs.Common.{◌≡◌, ℕ, ◌≤◌, Bool, true, false, ◌≢◌, List, length, if◌then◌else◌, None, unwrap_or, sym, ap, ◌∙◌, arith, has, codes_of, State, key_of, UnitState, Scope, number_of, key_at, Transition, Audience}
+use Rattle.pr_regions.proofs.Common.{◌≡◌, ℕ, ◌≤◌, Bool, true, false, ◌≢◌, List, length, if◌then◌else◌, None, unwrap_or, sym, ap, ◌∙◌, arith, has, codes_of, State, key_of, UnitState, Scope, number_of, key_at, Transition, Audience, Hosts}
 use Rattle.std.specs.FinSet as set
 use Rattle.pr_registry.specs.declared.change.Change.{Change as Told}
-use Rattle.pr_registry.specs.Hosts.{Hosts}
 use Rattle.pr_unit.specs.UnitStates.{pending_after, is_pending}
 use Rattle.pr_unit.proofs.lemmas.Attentions.ToldAttentions.{is_pending_after, contains-told, contains-untold}
 use Rattle.pr_regions.specs.Regions.{Changes}

@@ -1,17 +1,15 @@
 -- What each service action makes of a registry, registration by registration.
-use Rattle.pr_regions.proofs.Common.{◌≡◌, ℕ, zero, suc, ◌≤◌, Bool, true, false, cond, not, ◌&&◌, ◌≢◌, ◌⊎◌, List, length, is_some, if◌then◌else◌, ◌==◌, Some, None, Option, unwrap_or, sym, refl, ap, ◌∙◌, subst, inl, inr, arith, nat_tests, eqb_tells, Kind, no_change, change_on_unregister, is_told_of_loss, is_key, Hosts, nobody, State, is_registered, key_of, contains-nobody, get-without, number_of, key_at, Transition, Does, never, is_of_registrant, told_if, MOST_KEYS, eq-eqb, ne_eqb, Audience, tells_nobody, tells_of_loss, tells_of_removal}
+use Rattle.pr_regions.proofs.Common.{◌≡◌, ℕ, zero, suc, ◌≤◌, Bool, true, false, cond, not, ◌&&◌, ◌≢◌, ◌⊎◌, List, length, is_some, if◌then◌else◌, ◌==◌, Some, None, Option, unwrap_or, sym, refl, ap, ◌∙◌, subst, inl, inr, arith, nat_tests, eqb_tells, Kind, no_change, change_on_unregister, is_told_of_loss, is_key, Hosts, nobody, State, is_registered, key_of, contains-nobody, get-without, number_of, key_at, Transition, Does, never, is_of_registrant, told_if, MOST_KEYS, eq-eqb, ne_eqb, Audience, tells_nobody, tells_of_loss, tells_of_removal, holds_alone, BitSet, has, HasThose}
 use Rattle.std.specs.FinSet as set
 use Rattle.std.specs.FinMap as map
 use Rattle.pr_registry.specs.declared.change.Change.{Change as Told}
 use Rattle.pr_registry.specs.Hosts.{just}
-use Rattle.pr_registry.specs.Registrations.{others, registrants, holds_alone}
+use Rattle.pr_registry.specs.Registrations.{others, registrants}
 use Rattle.pr_registry.specs.Changes.{is_released, change_on_release, change_on_clear}
 use Rattle.pr_registry.specs.Effects.{with_registration as register, without_registration, after_release, after_clear}
 use Rattle.pr_registry.proofs.lemmas.Sets.{contains-just, contains-remove, contains-hosts_in, get-insert, get-empty}
-use Rattle.pr_sets.specs.declared.bit_set.BitSet.{BitSet}
-use Rattle.pr_sets.specs.BitSets.{has}
 use Rattle.pr_views.proofs.lemmas.Possibilities.Numbers.{same_registration}
-use Rattle.pr_regions.specs.Transitions.{HasThose, HaveAudience}
+use Rattle.pr_regions.specs.Transitions.{HaveAudience}
 use Rattle.pr_regions.specs.inside.Parts.{tells_of_clearing}
 use Rattle.pr_regions.proofs.lemmas.Showing.Numbers.{AreDistinct, is_some-key_at}
 use Rattle.pr_regions.proofs.lemmas.Regions.ChangedStates.{Is, Acts, AreTold, AreAudience}

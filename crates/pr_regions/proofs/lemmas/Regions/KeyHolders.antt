@@ -1,5 +1,5 @@
 -- Who has the key that a PREEMPT names, and what that makes of the command.
-use Rattle.pr_regions.proofs.Common.{◌≡◌, ℕ, zero, suc, ◌<◌, ◌≤◌, Bool, true, false, not, ◌≢◌, ◌⊎◌, List, length, get_or, is_some, if◌then◌else◌, ◌==◌, Some, None, Option, sym, refl, ap, ◌∙◌, subst, inl, inr, arith, false≢true, nat_tests, eqb_tells, Command, Kind, is_kind, ReplacesAll, preempt_case, held_by_rest, is_key, Hosts, nobody, Keys, without, hosts_with, is_empty, State, is_registered, key_of, new_reservation, Held, One, All, contains-nobody, get-without, UnitState, Scope, number_of, key_at, Registration, IsSo, HasNumber, Meets, Ends, Standing, Transition, Conflict, Good, Does, only, told_but, lost_if, is_named, eq-eqb, tells_of_removal, tells_of_replacement}
+use Rattle.pr_regions.proofs.Common.{◌≡◌, ℕ, zero, suc, ◌<◌, ◌≤◌, Bool, true, false, not, ◌≢◌, ◌⊎◌, List, length, get_or, is_some, if◌then◌else◌, ◌==◌, Some, None, Option, sym, refl, ap, ◌∙◌, subst, inl, inr, arith, false≢true, nat_tests, eqb_tells, Command, Kind, is_kind, ReplacesAll, preempt_case, held_by_rest, is_key, Hosts, nobody, Keys, without, hosts_with, is_empty, State, is_registered, key_of, new_reservation, Held, One, All, contains-nobody, get-without, UnitState, Scope, number_of, key_at, Registration, IsSo, HasNumber, Meets, Ends, Standing, Transition, Conflict, Good, Does, only, told_but, lost_if, is_named, eq-eqb, tells_of_removal, tells_of_replacement, is_empty_from_none}
 use Rattle.pr_unit.specs.declared.demand.Demand.TheVariants.{Preempt}
 use Rattle.std.specs.FinMap as map
 use Rattle.std.specs.FinSet as set
@@ -9,7 +9,7 @@ use Rattle.std.proofs.lemmas.Option.{slice_get_within, get_or_from_slice_get}
 use Rattle.pr_registry.specs.Hosts.{has_no_registrant}
 use Rattle.pr_registry.specs.Registrations.{IsKey}
 use Rattle.pr_registry.specs.Changes.{ReplacesHolder, RemovesKey}
-use Rattle.pr_registry.proofs.lemmas.Sets.{same_hosts, contains-hosts_with, is_empty_from_none, not_empty_from_some}
+use Rattle.pr_registry.proofs.lemmas.Sets.{same_hosts, contains-hosts_with, not_empty_from_some}
 use Rattle.pr_views.proofs.lemmas.Possibilities.Numbers.{once_of}
 use Rattle.pr_regions.specs.declared.purpose.Standing.TheVariants.{Named, Other}
 use Rattle.pr_regions.specs.Regions.{standing_of}

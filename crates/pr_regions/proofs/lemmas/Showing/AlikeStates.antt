@@ -1,7 +1,6 @@
 -- States that a view of one nexus shows alike.
-use Rattle.pr_regions.proofs.Common.{sym, ap, ◌∙◌, State, key_of, UnitState, Scope, Registration, IsSo, number_of}
+use Rattle.pr_regions.proofs.Common.{sym, ap, ◌∙◌, State, key_of, UnitState, Scope, Registration, IsSo, number_of, Item, Reservation, Attentions}
 use Rattle.pr_unit.proofs.lemmas.UnitStates.AlikeStates.{IsLike}
-use Rattle.pr_views.specs.Possibilities.{Item, Reservation, Attentions}
 
 -- what is so in the one is so in the other
 pub so_like : (s : Scope) (u w : UnitState) (i : Item) → IsLike s.own u w → IsSo s u i → IsSo s w i

@@ -1,5 +1,5 @@
 -- What is said of views holds of every view with the same possibilities.
-use Rattle.pr_regions.proofs.Common.{◌≡◌, ℕ, ◌<◌, true, Option, Some, None, sym, ap, ◌∙◌, subst, arith, false≢true, Held, One, UnitState, Scope, Registration, IsSo, number_of}
+use Rattle.pr_regions.proofs.Common.{◌≡◌, ℕ, ◌<◌, true, Option, Some, None, sym, ap, ◌∙◌, subst, arith, false≢true, Held, One, UnitState, Scope, Registration, IsSo, number_of, Possibilities, Item, Reservation, Attentions, count_of_reservations, IsPossible, Shows, view_in}
 use Rattle.std.proofs.Common.{◌↔◌}
 use Rattle.std.specs.Prelude.{Result, Ok, Err, IfOk}
 use Rattle.std.proofs.lemmas.Bool.{ltb-true}
@@ -7,10 +7,7 @@ use Rattle.pr_cdb.specs.declared.command.Kind.TheVariants.{WriteExclusive, Exclu
 use Rattle.pr_registry.specs.declared.held.Held.TheVariants.{All as Everybody}
 use Rattle.pr_unit.specs.UnitStates.{IsWellFormed}
 use Rattle.pr_roles.specs.Fitting.{is_reservation}
-use Rattle.pr_views.specs.declared.possibilities.Possibilities.{Possibilities}
-use Rattle.pr_views.specs.Possibilities.{Item, Reservation, Attentions, count_of_reservations}
-use Rattle.pr_views.specs.Views.{View, IsPossible, Shows, Within}
-use Rattle.pr_views.specs.Portions.{view_in}
+use Rattle.pr_views.specs.Views.{View, Within}
 use Rattle.pr_sets.specs.declared.view_set.ViewSet.{Ghosts as ViewSet}
 use Rattle.pr_views.specs.declared.view.ViewOf.{ViewOf}
 use Rattle.pr_views.specs.Rooms.{scope_of, view_of}

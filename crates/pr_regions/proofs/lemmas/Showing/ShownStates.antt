@@ -1,20 +1,13 @@
 -- What is so in the states that a view shows, reservation by reservation.
-use Rattle.pr_regions.proofs.Common.{◌≡◌, ◌≢◌, ℕ, zero, suc, ◌+◌, ◌<◌, ◌≤◌, Bool, true, false, ◌==◌, if◌then◌else◌, List, Option, Some, None, option_map, sym, ◌∙◌, subst, inl, inr, ◌⊎◌, arith, false≢true, eqb_tells, Held, One, All, UnitState, BitSet, has, Scope, Registration, IsSo, HasSomebody, MOST_KEYS, eq-eqb, refl}
+use Rattle.pr_regions.proofs.Common.{◌≡◌, ◌≢◌, ℕ, zero, suc, ◌+◌, ◌<◌, ◌≤◌, Bool, true, false, ◌==◌, if◌then◌else◌, List, Option, Some, None, option_map, sym, ◌∙◌, subst, inl, inr, ◌⊎◌, arith, false≢true, eqb_tells, Held, One, All, UnitState, BitSet, has, Scope, Registration, IsSo, HasSomebody, MOST_KEYS, eq-eqb, refl, has_wide, Possibilities, Item, Reservation, Attentions, IsPossible, Shows, has_at, view_in, one_registration, Region, filter_of, IsUntestedOrRegistered, Place, Adds, IsShownSo, IsShownBelow}
 use Rattle.std.proofs.lemmas.Bool.{eqb-true}
 use Rattle.pr_sets.specs.declared.wide.Wide.{Wide}
-use Rattle.pr_sets.specs.Wides.{has_wide}
-use Rattle.pr_views.specs.declared.possibilities.Possibilities.{Possibilities}
-use Rattle.pr_views.specs.Possibilities.{Item, Reservation, Attentions}
-use Rattle.pr_views.specs.Views.{IsPossible, Shows, Fits}
-use Rattle.pr_views.specs.Portions.{has_at, view_in}
-use Rattle.pr_views.proofs.lemmas.Possibilities.Numbers.{one_registration, one_reservation, one_attentions}
-use Rattle.pr_regions.specs.declared.region.Region.{Region}
-use Rattle.pr_regions.specs.Regions.{filter_of, IsUntestedOrRegistered}
-use Rattle.pr_regions.specs.declared.place.Place.{Place}
+use Rattle.pr_views.specs.Views.{Fits}
+use Rattle.pr_views.proofs.lemmas.Possibilities.Numbers.{one_reservation, one_attentions}
 use Rattle.pr_regions.specs.Gathering.{IsPlace, IsUniform, IsProper, IsAt, IsGathered}
-use Rattle.pr_regions.specs.inside.Adding.{Allows, Adds}
-use Rattle.pr_regions.specs.Keeping.{IsShownSo, IsKept}
-use Rattle.pr_regions.specs.inside.Showing.{IsShownAt, IsShown, IsShownBelow}
+use Rattle.pr_regions.specs.inside.Adding.{Allows}
+use Rattle.pr_regions.specs.Keeping.{IsKept}
+use Rattle.pr_regions.specs.inside.Showing.{IsShownAt, IsShown}
 use Rattle.pr_regions.proofs.lemmas.Keeping.Additions.{grown, adds_both, adds_nothing, IsJoined, joined_old, joined_other, joined_either}
 use Rattle.pr_regions.proofs.lemmas.Portions.GatheredStates.{few_keys}
 

@@ -1,5 +1,4 @@
-use Rattle.pr_regions.proofs.Common.{◌≤◌, Some, None, sym, refl, ap, ◌∙◌, arith, number_of, any, only, but, another, Leaves, tells_of_removal}
-use Rattle.pr_roles.specs.declared.limits.TheConstants.{MOST_KEYS}
+use Rattle.pr_regions.proofs.Common.{◌≤◌, Some, None, sym, refl, ap, ◌∙◌, arith, number_of, any, only, but, another, Leaves, tells_of_removal, MOST_KEYS}
 use Rattle.pr_regions.proofs.lemmas.Parts.Endings.{leaves, has_room}
 use Rattle.pr_regions.proofs.lemmas.Parts.HeldPreemption.{held_by, holders_key, own_key_goes, somebodys_key_goes, nobodys_key, tell_own_single, tell_other_single}
 use Rattle.pr_regions.proofs.preempting.preempting_holder.Goals as goal

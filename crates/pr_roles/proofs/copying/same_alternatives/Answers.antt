@@ -1,6 +1,5 @@
 -- Equal element by element.
-use Rattle.pr_roles.proofs.Common.{rules}
-use Rattle.std.proofs.lemmas.Slice.Eq.{slice_eq-Decides}
+use Rattle.pr_roles.proofs.Common.{rules, slice_eq-Decides}
 use Rattle.pr_roles.proofs.copying.same_alternatives.Goals as goal
 
 pub returns : goal.returns

@@ -1,7 +1,6 @@
 -- Two clauses are equal where their actions and their conditions are.
-use Rattle.pr_roles.proofs.Common.{◌≡◌, true, ap, ◌∙◌, subst, and_parts, Option, rules}
+use Rattle.pr_roles.proofs.Common.{◌≡◌, true, ap, ◌∙◌, subst, and_parts, Option, rules, slice_eq-Decides}
 use Rattle.std.specs.Option.{option_eq}
-use Rattle.std.proofs.lemmas.Slice.Eq.{slice_eq-Decides}
 use Rattle.pr_roles.specs.declared.role.Clause.{Clause}
 use Rattle.pr_roles.specs.declared.role.Action.{Action}
 use Rattle.pr_roles.specs.declared.role.Condition.{Condition}

@@ -1,6 +1,4 @@
-use Rattle.pr_roles.proofs.Common.{◌≡◌, true, subst, rules}
-use Rattle.std.proofs.lemmas.Slice.Eq.{slice_eq-Decides}
-use Rattle.pr_cdb.specs.declared.command.Command.{Command}
+use Rattle.pr_roles.proofs.Common.{◌≡◌, true, subst, rules, slice_eq-Decides, Command}
 use Rattle.pr_cdb.specs.contracts.command.CommandPartialEq.TheImpl as command
 use Rattle.pr_roles.proofs.copying.same_commands.Goals as goal
 

@@ -1,7 +1,5 @@
 -- A list with an element that passes a test.
-use Rattle.pr_roles.proofs.Common.{◌≡◌, ℕ, zero, suc, ◌<◌, Bool, true, false, List, [], ◌∷◌, length, slice_index_or, refl, ap, ◌∙◌, arith, false≢true}
-use Rattle.std.proofs.Common.{◌||◌}
-use Rattle.std.specs.List.{list_any}
+use Rattle.pr_roles.proofs.Common.{◌≡◌, ℕ, zero, suc, ◌<◌, Bool, true, false, List, [], ◌∷◌, length, slice_index_or, refl, ap, ◌∙◌, arith, false≢true, ◌||◌, list_any}
 use Rattle.std.proofs.lemmas.Bool.{or_right}
 use Rattle.pr_roles.specs.inside.FirstElements.{Among}
 

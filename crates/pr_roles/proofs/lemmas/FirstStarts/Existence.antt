@@ -1,7 +1,7 @@
 -- The first start: that it is allowed, and that it is there where some state is allowed.
-use Rattle.pr_roles.proofs.Common.{◌≡◌, ℕ, zero, suc, ◌+◌, ◌<◌, Bool, true, false, cond, not, ◌⊎◌, List, [], ◌∷◌, map, length, is_some, ◌==◌, slice_get, slice_index_or, Some, None, Contains, Option, option_map, sym, refl, ap, ◌∙◌, subst, inl, inr, arith, list_all, false≢true, and_parts, none-some, same_Some, slice_get-map, IsKey, Starts, first_of, first_key, start_of, slice_get_within}
+use Rattle.pr_roles.proofs.Common.{◌≡◌, ℕ, zero, suc, ◌+◌, ◌<◌, Bool, true, false, cond, not, ◌⊎◌, List, [], ◌∷◌, map, length, is_some, ◌==◌, slice_get, slice_index_or, Some, None, Contains, Option, option_map, sym, refl, ap, ◌∙◌, subst, inl, inr, arith, list_all, false≢true, and_parts, none-some, same_Some, slice_get-map, IsKey, Starts, first_of, first_key, start_of, slice_get_within, ◌||◌}
 use Rattle.std.specs.List.{position_from, All}
-use Rattle.std.proofs.Common.{◌≢◌, ◌||◌, position, slice_set}
+use Rattle.std.proofs.Common.{◌≢◌, position, slice_set}
 use Rattle.std.proofs.lemmas.Bool.Decides.{eqb_tells}
 use Rattle.std.proofs.lemmas.Iterator.Adapters.{position_from-zero}
 use Rattle.std.proofs.lemmas.Option.{get_or_from_slice_get}

@@ -1,11 +1,10 @@
 -- The reservation of the first start, and the registrations under it.
-use Rattle.pr_roles.proofs.Common.{◌≡◌, ℕ, zero, suc, ◌+◌, ◌<◌, Bool, true, false, cond, List, [], ◌∷◌, map, length, is_some, slice_get, slice_index_or, Some, None, Contains, Option, option_map, sym, refl, ap, ◌∙◌, subst, arith, false≢true, none-some, same_Some, slice_get_within, Held, One, All, Starts, first_of, first_key, keys_under, first_under}
+use Rattle.pr_roles.proofs.Common.{◌≡◌, ℕ, zero, suc, ◌+◌, ◌<◌, Bool, true, false, cond, List, [], ◌∷◌, map, length, is_some, slice_get, slice_index_or, Some, None, Contains, Option, option_map, sym, refl, ap, ◌∙◌, subst, arith, false≢true, none-some, same_Some, slice_get_within, Held, One, All, Starts, first_of, first_key, keys_under, first_under, list_any, Kind}
 use Rattle.std.specs.Prelude.{position, slice_set, option_and_then}
 use Rattle.std.specs.Option.{option_or}
-use Rattle.std.specs.List.{position_from, list_any}
+use Rattle.std.specs.List.{position_from}
 use Rattle.std.proofs.lemmas.List.{get_or-set_same}
 use Rattle.std.proofs.lemmas.Iterator.Adapters.{position_from-zero}
-use Rattle.pr_cdb.specs.declared.command.Kind.{Kind}
 use Rattle.pr_roles.specs.FirstStarts.{with_key}
 use Rattle.pr_roles.proofs.lemmas.FirstStarts.Existence.{Chosen, chosen_length, chosen_set, AreOffered, firsts_chosen, first_key_there, first_key_found, contains_first, contains_more}
 

@@ -1,8 +1,7 @@
 -- Lists without repetition, and lists of parts.
-use Rattle.pr_roles.proofs.Common.{◌≡◌, ℕ, ◌<◌, Bool, true, false, not, ◌&&◌, List, [], ◌∷◌, map, length, slice_index_or, bytes_eq, sym, refl, ap, ◌∙◌, list_all, are_distinct, Nexus, nexus_of}
+use Rattle.pr_roles.proofs.Common.{◌≡◌, ℕ, ◌<◌, Bool, true, false, not, ◌&&◌, List, [], ◌∷◌, map, length, slice_index_or, bytes_eq, sym, refl, ap, ◌∙◌, list_all, are_distinct, Nexus, nexus_of, list_any, length-map}
 use Rattle.std.specs.Prelude.{◌||◌}
-use Rattle.std.specs.List.{list_any}
-use Rattle.std.proofs.lemmas.List.{get_or-map, length-map}
+use Rattle.std.proofs.lemmas.List.{get_or-map}
 use Rattle.pr_roles.specs.declared.parts.Nexus.{Nexus as NexusPart}
 
 any_same : {X : Type 0} (f g : X → Bool) → ((x : X) → f x ≡ g x) → (xs : List X) → list_any f xs ≡ list_any g xs

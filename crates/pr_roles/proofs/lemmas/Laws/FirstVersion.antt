@@ -1,10 +1,7 @@
 -- In version 1 of texts no refusal is declared.
-use Rattle.pr_roles.proofs.Common.{◌≡◌, ℕ, zero, suc, true, ◌&&◌, ◌⊎◌, List, [], ◌∷◌, nat_lt, nat_le, ◌==◌, slice_get, refl, subst, inl, inr, arith, false≢true, and_parts, nat_tests, Nexus}
-use Rattle.std.proofs.Common.{IsTrue}
-use Rattle.std.specs.Option.{option_map_or}
+use Rattle.pr_roles.proofs.Common.{◌≡◌, ℕ, zero, suc, true, ◌&&◌, ◌⊎◌, List, [], ◌∷◌, nat_lt, nat_le, ◌==◌, slice_get, refl, subst, inl, inr, arith, false≢true, and_parts, nat_tests, Nexus, IsTrue, option_map_or, How}
 use Rattle.std.proofs.lemmas.Bool.{or_cases}
 use Rattle.pr_roles.specs.declared.limits.TheConstants.{MOST_REFUSALS}
-use Rattle.pr_roles.specs.declared.how.How.{How}
 use Rattle.pr_roles.specs.declared.how.How.TheVariants as how
 use Rattle.pr_roles.specs.Fitting.{is_count, is_task_of, are_of}
 use Rattle.pr_roles.specs.Answers.{refusals_by, most_refusals, may_come}

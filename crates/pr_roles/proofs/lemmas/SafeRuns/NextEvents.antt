@@ -1,7 +1,5 @@
 -- A run and one event more.
-use Rattle.pr_roles.proofs.Common.{[], ◌∷◌, refl, subst, world_from}
-use Rattle.std.proofs.Common.{◌++◌}
-use Rattle.pr_roles.specs.Worlds.{Host, Run}
+use Rattle.pr_roles.proofs.Common.{[], ◌∷◌, refl, subst, world_from, ◌++◌, Host, Run}
 unfoldable use Rattle.pr_roles.specs.Safety.{IsSafe}
 use Rattle.pr_roles.specs.SafeRuns.{RunsGoOn, SafeSendsAreFine}
 

@@ -1,7 +1,6 @@
 -- The nexuses of a scenario, and those of its parts.
-use Rattle.pr_roles.proofs.Common.{◌≡◌, ℕ, ◌<◌, ◌≤◌, true, ◌&&◌, List, [], length, nat_lt, nat_le, slice_get, slice_index_or, Some, None, Option, option_map, sym, refl, ap, ◌∙◌, subst, arith, and_parts, nat_tests, slice_get-map, slice_get_within, Nexus, Scenario, nexus_of}
+use Rattle.pr_roles.proofs.Common.{◌≡◌, ℕ, ◌<◌, ◌≤◌, true, ◌&&◌, List, [], length, nat_lt, nat_le, slice_get, slice_index_or, Some, None, Option, option_map, sym, refl, ap, ◌∙◌, subst, arith, and_parts, nat_tests, slice_get-map, slice_get_within, Nexus, Scenario, nexus_of, option_map_or, Parts, nexus, task, scenario_of, Fits}
 use Rattle.std.proofs.Common.{get_or}
-use Rattle.std.specs.Option.{option_map_or}
 use Rattle.std.proofs.lemmas.Bool.{leb-true}
 use Rattle.std.proofs.lemmas.List.Sums.{AllPass-from_list_all}
 use Rattle.std.proofs.lemmas.Option.{slice_get-get_or, slice_get_past, slice_get_read, get_or_from_slice_get}
@@ -10,10 +9,9 @@ use Rattle.pr_script.specs.Names.{is_name}
 use Rattle.pr_script.specs.Trees.{script_of}
 use Rattle.pr_script.specs.declared.script.Script.{Script}
 use Rattle.pr_roles.specs.declared.parts.Nexus.{Nexus as NexusPart}
-use Rattle.pr_roles.specs.declared.parts.Parts.{Parts}
 use Rattle.pr_roles.specs.declared.parts.Task.TheVariants as part
-use Rattle.pr_roles.specs.Scenarios.{Scripted, nexus, role, task, task_of, scenario_of}
-use Rattle.pr_roles.specs.Fitting.{Fits, is_role, is_start, is_task, is_nexus}
+use Rattle.pr_roles.specs.Scenarios.{Scripted, role, task_of}
+use Rattle.pr_roles.specs.Fitting.{is_role, is_start, is_task, is_nexus}
 use Rattle.pr_roles.proofs.lemmas.Starts.AllowedStarts.{each_nexus}
 
 -- each has a role and a task that fit

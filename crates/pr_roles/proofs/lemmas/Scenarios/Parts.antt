@@ -1,11 +1,8 @@
 -- The keys and the nexuses of a scenario's parts.
-use Rattle.pr_roles.proofs.Common.{◌≡◌, ◌≤◌, length, nat_le, ◌==◌, refl, and_parts, are_distinct, nexus_of}
+use Rattle.pr_roles.proofs.Common.{◌≡◌, ◌≤◌, length, nat_le, ◌==◌, refl, and_parts, are_distinct, nexus_of, length-map, Parts, scenario_of, Fits}
 use Rattle.std.proofs.lemmas.Bool.{leb-true}
-use Rattle.std.proofs.lemmas.List.{length-map}
 use Rattle.pr_roles.specs.declared.limits.TheConstants.{MOST_KEYS}
-use Rattle.pr_roles.specs.declared.parts.Parts.{Parts}
-use Rattle.pr_roles.specs.Scenarios.{scenario_of}
-use Rattle.pr_roles.specs.Fitting.{Fits, AreDeclared}
+use Rattle.pr_roles.specs.Fitting.{AreDeclared}
 
 pub keys_are : (p : Parts) → (scenario_of p).keys ≡ p.keys.items
 unfolding scenario_of

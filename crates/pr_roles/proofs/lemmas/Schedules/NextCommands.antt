@@ -1,13 +1,10 @@
 -- What comes next of a nexus, by what is known of it, and what its turn comes to.
-use Rattle.pr_roles.proofs.Common.{◌≡◌, ℕ, ◌&&◌, List, [], Some, None, Option, sym, refl, ap, ◌∙◌, none-some, Scenario}
-use Rattle.std.proofs.Common.{slice_set, slice_get, unwrap_or}
-use Rattle.std.specs.Option.{option_map_or}
+use Rattle.pr_roles.proofs.Common.{◌≡◌, ℕ, ◌&&◌, List, [], Some, None, Option, sym, refl, ap, ◌∙◌, none-some, Scenario, slice_get, option_map_or, Command, How, Task, task}
+use Rattle.std.proofs.Common.{slice_set, unwrap_or}
 use Rattle.std.proofs.lemmas.List.{set-get_or}
 use Rattle.std.proofs.lemmas.Option.{unwrap_or-slice_get}
-use Rattle.pr_cdb.specs.declared.command.Command.{Command}
 use Rattle.pr_script.specs.Scripts.{Standing}
-use Rattle.pr_roles.specs.declared.how.How.{How}
-use Rattle.pr_roles.specs.Scenarios.{Task, role, task}
+use Rattle.pr_roles.specs.Scenarios.{role}
 use Rattle.pr_roles.specs.Worlds.{control, standing_of, is_guest_task}
 use Rattle.pr_roles.specs.Schedules.{Schedule, plan, next_by, next_of, is_passed_over, passes_over, TurnAs, sends, passes, rests}
 

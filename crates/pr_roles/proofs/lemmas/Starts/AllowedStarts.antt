@@ -1,11 +1,10 @@
 -- The first start is allowed, and where some state is allowed there is a first start.
-use Rattle.pr_roles.proofs.Common.{◌≡◌, ℕ, zero, suc, ◌<◌, ◌≤◌, Bool, true, false, cond, not, ◌⊎◌, List, [], ◌∷◌, map, length, is_some, nat_lt, nat_le, ◌==◌, slice_get, slice_index_or, Some, None, Contains, Option, option_map, bytes_eq, sym, refl, ap, ◌∙◌, subst, inl, inr, arith, list_all, false≢true, and_parts, nat_tests, none-some, slice_get-map, slice_get_within, IsKey, Held, One, All, UnitState, quiet_unit, keys_under, first_under, are_distinct, Nexus, Scenario, nexus_of, start_of}
+use Rattle.pr_roles.proofs.Common.{◌≡◌, ℕ, zero, suc, ◌<◌, ◌≤◌, Bool, true, false, cond, not, ◌⊎◌, List, [], ◌∷◌, map, length, is_some, nat_lt, nat_le, ◌==◌, slice_get, slice_index_or, Some, None, Contains, Option, option_map, bytes_eq, sym, refl, ap, ◌∙◌, subst, inl, inr, arith, list_all, false≢true, and_parts, nat_tests, none-some, slice_get-map, slice_get_within, IsKey, Held, One, All, UnitState, quiet_unit, keys_under, first_under, are_distinct, Nexus, Scenario, nexus_of, start_of, length-map, Parts, nexus, scenario_of, Fits}
 use Rattle.std.specs.FinMap as finmap
 use Rattle.std.specs.List.{All as Each}
 use Rattle.std.proofs.Common.{lit≤, ◌^◌, if◌then◌else◌, IfSome, IsSome}
 use Rattle.std.proofs.Math.Nat.{eq-or-lt_of_le}
 use Rattle.std.proofs.lemmas.Bool.{ltb-true, not-true}
-use Rattle.std.proofs.lemmas.List.{length-map}
 use Rattle.pr_cdb.specs.declared.codes.TheConstants.{MOST_NEXUSES}
 use Rattle.pr_roles.specs.declared.limits.TheConstants.{MOST_DECLARED_1, MOST_DECLARED_2}
 use Rattle.pr_registry.specs.Hosts.{Keys}
@@ -15,9 +14,7 @@ use Rattle.pr_registry.proofs.lemmas.Tables.{get-table_keys, get-table_keys_in, 
 use Rattle.pr_unit.proofs.lemmas.Attentions.Pairs.{contains-none}
 use Rattle.pr_script.specs.Names.{is_name}
 use Rattle.pr_roles.specs.declared.parts.Nexus.{Nexus as NexusPart}
-use Rattle.pr_roles.specs.declared.parts.Parts.{Parts}
-use Rattle.pr_roles.specs.Scenarios.{nexus, scenario_of}
-use Rattle.pr_roles.specs.Fitting.{Fits, most_declared, is_reservation, is_nexus, is_role, is_start, is_task, is_alternative, is_same_reservation}
+use Rattle.pr_roles.specs.Fitting.{most_declared, is_reservation, is_nexus, is_role, is_start, is_task, is_alternative, is_same_reservation}
 use Rattle.pr_roles.specs.Starts.{IsAllowedStart, CanStart}
 use Rattle.pr_roles.specs.FirstStarts.{starts, first_state}
 use Rattle.pr_roles.proofs.lemmas.Fitting.DistinctLists.{length_of_parts}

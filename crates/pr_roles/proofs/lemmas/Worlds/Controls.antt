@@ -1,11 +1,8 @@
 -- What the nexuses do as a run begins, and after a command of one of them.
-use Rattle.pr_roles.proofs.Common.{◌≡◌, ℕ, zero, suc, ◌<◌, List, ◌∷◌, length, slice_get, Some, None, Option, option_map, refl, ap, ◌∙◌, none-some, same_Some, slice_get-map, slice_get_within, UnitState, Nexus, Scenario, world_from}
+use Rattle.pr_roles.proofs.Common.{◌≡◌, ℕ, zero, suc, ◌<◌, List, ◌∷◌, length, slice_get, Some, None, Option, option_map, refl, ap, ◌∙◌, none-some, same_Some, slice_get-map, slice_get_within, UnitState, Nexus, Scenario, world_from, option_map_or, Reply, Task, nexus, task, World}
 use Rattle.std.specs.Prelude.{◌≢◌, slice_set}
-use Rattle.std.specs.Option.{option_map_or}
-use Rattle.pr_cdb.specs.declared.reply.Reply.{Reply}
 use Rattle.pr_cdb.specs.declared.wire.Wire.{Wire}
-use Rattle.pr_roles.specs.Scenarios.{Task, nexus, task}
-use Rattle.pr_roles.specs.Worlds.{Control, Free, World, control, control_after, control_of, after}
+use Rattle.pr_roles.specs.Worlds.{Control, Free, control, control_after, control_of, after}
 
 -- what has a task is there
 pub there : (s : Scenario) (h : ℕ) (t : Task) → task s h ≡ Some t → h < length s.nexuses

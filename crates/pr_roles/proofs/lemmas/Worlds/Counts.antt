@@ -1,9 +1,6 @@
 -- How many commands a nexus sent, after one more.
-use Rattle.pr_roles.proofs.Common.{◌≡◌, ℕ, ◌+◌, true, false, cond, List, [], ◌∷◌, ◌==◌, ap, arith, nat_tests}
+use Rattle.pr_roles.proofs.Common.{◌≡◌, ℕ, ◌+◌, true, false, cond, List, [], ◌∷◌, ◌==◌, ap, arith, nat_tests, sum_by_push, Entry, Item}
 use Rattle.std.specs.Prelude.{◌++◌, ◌≢◌}
-use Rattle.std.proofs.lemmas.List.Sums.{sum_by_push}
-use Rattle.pr_roles.specs.declared.entry.Entry.{Entry}
-use Rattle.pr_roles.specs.declared.item.Item.{Item}
 use Rattle.pr_roles.specs.declared.item.Item.TheVariants.{Sent, Reset}
 use Rattle.pr_roles.specs.Worlds.{commands_by, is_sent_by}
 

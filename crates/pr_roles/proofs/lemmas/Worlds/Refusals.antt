@@ -1,21 +1,17 @@
 -- How often a nexus is refused in a run.
-use Rattle.pr_roles.proofs.Common.{◌≡◌, ℕ, ◌+◌, ◌<◌, ◌≤◌, Bool, true, false, cond, ◌&&◌, List, [], ◌∷◌, ◌==◌, sym, refl, ap, ◌∙◌, subst, arith, false≢true, and_parts, nat_tests, UnitState, Scenario, world_from}
-use Rattle.std.proofs.Common.{IsTrue, ◌++◌, zero-add}
+use Rattle.pr_roles.proofs.Common.{◌≡◌, ℕ, ◌+◌, ◌<◌, ◌≤◌, Bool, true, false, cond, ◌&&◌, List, [], ◌∷◌, ◌==◌, sym, refl, ap, ◌∙◌, subst, arith, false≢true, and_parts, nat_tests, UnitState, Scenario, world_from, IsTrue, ◌++◌, sum_by_push, Reply, Entry, Item, How, World, Event, Host, Run}
+use Rattle.std.proofs.Common.{zero-add}
 use Rattle.std.specs.List.{count_by}
-use Rattle.std.proofs.lemmas.List.Sums.{sum_by_push, sum_by-cons}
-use Rattle.pr_cdb.specs.declared.reply.Reply.{Reply}
+use Rattle.std.proofs.lemmas.List.Sums.{sum_by-cons}
 use Rattle.pr_cdb.specs.declared.wire.Request.{Request}
 use Rattle.pr_cdb.specs.declared.wire.Request.TheVariants.{Plain}
 use Rattle.pr_cdb.specs.Spelling.{spelling}
 use Rattle.pr_cdb.specs.Statuses.{is_busy_status, is_full_status}
 use Rattle.pr_unit.proofs.lemmas.Steps.Statuses.{steps_are_never_busy}
-use Rattle.pr_roles.specs.declared.entry.Entry.{Entry}
-use Rattle.pr_roles.specs.declared.item.Item.{Item}
 use Rattle.pr_roles.specs.declared.item.Item.TheVariants.{Sent, Reset}
-use Rattle.pr_roles.specs.declared.how.How.{How}
 use Rattle.pr_roles.specs.declared.how.How.TheVariants as how
 use Rattle.pr_roles.specs.Answers.{Answers, is_refusal, is_refused, refusals_by, most_refusals, may_come}
-use Rattle.pr_roles.specs.Worlds.{World, Event, Host, Guest, UnitReset, Happens, Run, entry_of}
+use Rattle.pr_roles.specs.Worlds.{Guest, UnitReset, Happens, entry_of}
 use Rattle.pr_roles.specs.Laws.{is_same_refusal, is_refused_in, RefusalsAreCounted, RefusalsAreDeclared}
 
 -- the status tells how a command was answered

@@ -1,16 +1,14 @@
 -- How often the unit is reset in a run.
-use Rattle.pr_roles.proofs.Common.{◌≡◌, ℕ, ◌+◌, ◌<◌, ◌≤◌, true, false, cond, ◌&&◌, ◌⊎◌, List, [], ◌∷◌, nat_lt, nat_le, ◌==◌, sym, ap, ◌∙◌, subst, inl, inr, arith, false≢true, nat_tests, Scenario, world_from}
-use Rattle.std.proofs.Common.{◌++◌, zero-add}
+use Rattle.pr_roles.proofs.Common.{◌≡◌, ℕ, ◌+◌, ◌<◌, ◌≤◌, true, false, cond, ◌&&◌, ◌⊎◌, List, [], ◌∷◌, nat_lt, nat_le, ◌==◌, sym, ap, ◌∙◌, subst, inl, inr, arith, false≢true, nat_tests, Scenario, world_from, ◌++◌, sum_by_push, Entry, Item, World, Event, Host, Run}
+use Rattle.std.proofs.Common.{zero-add}
 use Rattle.std.specs.List.{count_by}
 use Rattle.std.proofs.lemmas.Bool.{or_cases}
-use Rattle.std.proofs.lemmas.List.Sums.{sum_by_push, sum_by-cons}
+use Rattle.std.proofs.lemmas.List.Sums.{sum_by-cons}
 use Rattle.pr_cdb.specs.Spelling.{spelling}
 use Rattle.pr_roles.specs.declared.limits.TheConstants.{MOST_RESETS}
-use Rattle.pr_roles.specs.declared.entry.Entry.{Entry}
-use Rattle.pr_roles.specs.declared.item.Item.{Item}
 use Rattle.pr_roles.specs.declared.item.Item.TheVariants.{Sent, Reset}
 use Rattle.pr_roles.specs.Fitting.{are_resets}
-use Rattle.pr_roles.specs.Worlds.{World, Event, Host, Guest, UnitReset, Happens, Run, entry_of, is_reset, resets_in}
+use Rattle.pr_roles.specs.Worlds.{Guest, UnitReset, Happens, entry_of, is_reset, resets_in}
 use Rattle.pr_roles.specs.Laws.{is_reset_event, ResetsAreCounted, ResetsAreDeclared, FirstVersionHasNoReset}
 
 pub resets-cons : (e : Item) (es : List Item) → resets_in (e ∷ es) ≡ cond (is_reset e) 1 0 + resets_in es

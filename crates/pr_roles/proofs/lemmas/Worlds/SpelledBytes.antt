@@ -1,13 +1,9 @@
 -- What a command is spelled as are bytes, as many as a wire holds.
-use Rattle.std.proofs.Common.{◌≡◌, ℕ, zero, suc, ◌<◌, ◌≤◌, Bool, true, false, List, [], ◌∷◌, ◌++◌, length, nat_lt, Some, None, Option, refl, arith}
-use Rattle.std.specs.List.{list_all}
-use Rattle.std.proofs.lemmas.Bool.Decides.{nat_tests}
+use Rattle.pr_roles.proofs.Common.{◌≡◌, ℕ, zero, suc, ◌<◌, ◌≤◌, Bool, true, false, List, [], ◌∷◌, ◌++◌, length, nat_lt, Some, None, Option, refl, arith, list_all, nat_tests, Command, ◌&&◌, Kind}
 use Rattle.pr_cdb.specs.declared.codes.TheConstants.{MOST_CDB_LENGTH, PARAMETER_LIST_LENGTH}
-use Rattle.pr_cdb.specs.declared.command.Command.{Command}
 unfoldable use Rattle.pr_cdb.specs.Spelling.{spelling}
-use Rattle.std.proofs.Common.{◌/◌, ◌%◌, ◌^◌, ◌&&◌}
+use Rattle.std.proofs.Common.{◌/◌, ◌%◌, ◌^◌}
 use Rattle.std.specs.Int.{w16, w32, w64, byte_at, bytes_high_first, to_be_bytes}
-use Rattle.pr_cdb.specs.declared.command.Kind.{Kind}
 use Rattle.pr_cdb.specs.declared.command.Kind.TheVariants.{WriteExclusive}
 use Rattle.pr_cdb.specs.declared.command.Command.TheVariants.{TestUnitReady, RequestSense, Read, Write, ReadKeys, ReadReservation, ReportCapabilities, Register, RegisterIgnore, Reserve, Release, Clear, Preempt, PreemptAbort}
 use Rattle.pr_cdb.specs.Kinds.{code_of}

@@ -1,9 +1,7 @@
 -- Its task is that of its nexus.
-use Rattle.std.proofs.Common.{◌≤◌, Some, length, sym, ap, ◌∙◌, arith}
-use Rattle.std.proofs.lemmas.Bool.Decides.{nat_tests}
-use Rattle.pr_roles.specs.declared.parts.Parts.{Parts}
+use Rattle.pr_roles.proofs.Common.{◌≤◌, Some, length, sym, ap, ◌∙◌, arith, nat_tests, Parts, scenario_of}
 use Rattle.pr_roles.specs.declared.parts.Task.{Task}
-use Rattle.pr_roles.specs.Scenarios.{scenario_of, task_of}
+use Rattle.pr_roles.specs.Scenarios.{task_of}
 use Rattle.pr_roles.proofs.lemmas.Scenarios.Nexuses.{nexus_found, task_past, task_read}
 use Rattle.pr_roles.proofs.lemmas.Scenarios.Parts.{count_of_parts}
 use Rattle.pr_roles.specs.Tasks.{has_script}

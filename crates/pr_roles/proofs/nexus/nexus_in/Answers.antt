@@ -1,6 +1,5 @@
-use Rattle.pr_roles.proofs.Common.{◌≡◌, ℕ, ◌<◌, length, slice_index_or, Some, sym, ap, ◌∙◌, subst, arith, nexus_of}
+use Rattle.pr_roles.proofs.Common.{◌≡◌, ℕ, ◌<◌, length, slice_index_or, Some, sym, ap, ◌∙◌, subst, arith, nexus_of, Parts}
 use Rattle.pr_roles.specs.declared.parts.Nexus.{Nexus}
-use Rattle.pr_roles.specs.declared.parts.Parts.{Parts}
 use Rattle.pr_roles.proofs.lemmas.Scenarios.Nexuses.{nexus_at}
 use Rattle.pr_roles.proofs.lemmas.Scenarios.Parts.{count_of_parts}
 use Rattle.pr_roles.proofs.nexus.nexus_in.Goals as goal

@@ -1,8 +1,7 @@
 -- Two reservations are equal where their types and holders are.
-use Rattle.pr_roles.proofs.Common.{◌≡◌, ◌&&◌, ◌==◌, Some, None, Option, refl, ap, ◌∙◌, rules, Held, One, All}
+use Rattle.pr_roles.proofs.Common.{◌≡◌, ◌&&◌, ◌==◌, Some, None, Option, refl, ap, ◌∙◌, rules, Held, One, All, Kind}
 use Rattle.std.specs.Option.{option_eq}
 use Rattle.pr_registry.specs.contracts.held.HeldPartialEq.TheImpl as held
-use Rattle.pr_cdb.specs.declared.command.Kind.{Kind}
 use Rattle.pr_cdb.specs.contracts.command.KindPartialEq.TheImpl as kind
 use Rattle.pr_registry.specs.Changes.{is_kind}
 use Rattle.pr_roles.specs.Fitting.{is_same_reservation}

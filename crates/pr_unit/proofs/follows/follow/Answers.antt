@@ -1,6 +1,4 @@
-use Rattle.pr_unit.proofs.Common.{◌≡◌, ℕ, Bool, true, false, if◌then◌else◌, Option, sym, refl, ◌∙◌, subst, Reply, Sense, Request, power_on, last_decision, decision, StepBy, UnitState, is_pending, is_any_pending, unit_of, Decision, PowerOn, Conflicting, Attention, Done, AtFault}
-use Rattle.std.proofs.Common.{None, Some}
-use Rattle.pr_unit.specs.Conduct.{conflicts, fault}
+use Rattle.pr_unit.proofs.Common.{◌≡◌, ℕ, Bool, true, false, if◌then◌else◌, Option, sym, refl, ◌∙◌, subst, Reply, Sense, Request, power_on, last_decision, decision, StepBy, UnitState, is_pending, is_any_pending, unit_of, Decision, PowerOn, Conflicting, Attention, Done, AtFault, None, Some, conflicts, fault}
 use Rattle.pr_unit.specs.Follows.{IsFollowed}
 use Rattle.pr_unit.specs.inside.Following.{IsReported}
 use Rattle.pr_unit.proofs.follows.follow.Goals as goal

@@ -1,12 +1,11 @@
-use Rattle.std.proofs.Common.{ℕ, Bool, take, [], ◌∷◌, slice_index_or, sym, ◌∙◌, subst}
-use Rattle.std.specs.List.{All}
+use Rattle.pr_unit.proofs.Common.{ℕ, Bool, [], ◌∷◌, sym, ◌∙◌, subst, All, code_of, UnitState, unit_of}
+use Rattle.std.proofs.Common.{take, slice_index_or}
 use Rattle.std.proofs.lemmas.List.{take_all, take_more}
 use Rattle.std.proofs.lemmas.List.Elements.{All-append, All-cons, All-nil, All-contains}
 use Rattle.pr_attention.specs.declared.attention.Attention.{Attention}
 use Rattle.pr_attention.specs.declared.attention.Attention.TheVariants.{PowerOn}
-use Rattle.pr_attention.specs.Attentions.{code_of, each_attention}
+use Rattle.pr_attention.specs.Attentions.{each_attention}
 use Rattle.pr_attention.proofs.lemmas.FourCodes.{which, listed}
-use Rattle.pr_unit.specs.UnitStates.{UnitState, unit_of}
 use Rattle.pr_unit.specs.inside.Following.{IsReported, IsUnreported}
 use Rattle.pr_unit.proofs.follows.follow_any_report.Goals as goal
 

@@ -1,7 +1,5 @@
-use Rattle.std.proofs.Common.{◌≡◌, take}
-use Rattle.std.specs.List.{All}
-use Rattle.pr_attention.specs.Attentions.{code_of}
-use Rattle.pr_unit.specs.UnitStates.{unit_of}
+use Rattle.pr_unit.proofs.Common.{◌≡◌, All, code_of, unit_of}
+use Rattle.std.proofs.Common.{take}
 use Rattle.pr_unit.specs.inside.Following.{IsUnreported}
 use Rattle.pr_unit.proofs.follows.follow_any_report.Given as goal
 

@@ -1,6 +1,6 @@
 -- What sets of pending attentions contain.
-use Rattle.pr_unit.proofs.Common.{◌≡◌, ℕ, zero, suc, ◌+◌, ◌<◌, Bool, true, false, not, ◌&&◌, ◌||◌, List, [], ◌∷◌, length, if◌then◌else◌, nat_lt, ◌==◌, sym, refl, ap, ◌∙◌, arith, false≢true, MOST_NEXUSES, Codes, no_code, Pairs, place, table_pairs, each_with, pairs_where, or-false}
-use Rattle.std.proofs.Common.{◌≢◌, map, slice_index_or, slice_set, inl, inr, ◌⊎◌, add-one, eqb-true, lt-ltb}
+use Rattle.pr_unit.proofs.Common.{◌≡◌, ℕ, zero, suc, ◌+◌, ◌<◌, Bool, true, false, not, ◌&&◌, ◌||◌, List, [], ◌∷◌, length, if◌then◌else◌, nat_lt, ◌==◌, sym, refl, ap, ◌∙◌, arith, false≢true, MOST_NEXUSES, Codes, no_code, Pairs, place, table_pairs, each_with, pairs_where, or-false, inl, inr, ◌⊎◌, Hosts}
+use Rattle.std.proofs.Common.{◌≢◌, map, slice_index_or, slice_set, add-one, eqb-true, lt-ltb}
 use Rattle.std.specs.Ordering.{nat_cmp, eq_by_cmp, is_eq, ordering_then}
 use Rattle.std.specs.declared.cmp.Ordering.{Ordering}
 use Rattle.std.specs.declared.cmp.Ordering.TheVariants.{Less, Equal, Greater}
@@ -9,7 +9,6 @@ use Rattle.std.specs.Cmp.Lexicographic.{nat_list_cmp_total}
 use Rattle.std.specs.FinSet as set
 use Rattle.std.specs.FinSet.{IsAntisymmetric, slice_cmp-IsAntisymmetric, nat_cmp-IsAntisymmetric}
 use Rattle.std.specs.List.{list_any}
-use Rattle.pr_registry.specs.Hosts.{Hosts}
 use Rattle.std.proofs.lemmas.Bool.Decides.{eqb_tells}
 use Rattle.std.proofs.lemmas.List.{get_or-set_same, get_or-set_other}
 use Rattle.std.proofs.Math.Bool.{or_self, and-or_distrib_right, and-or_distrib_left, and-false}

@@ -1,10 +1,10 @@
 -- What a reset makes pending.
-use Rattle.pr_unit.proofs.Common.{◌≡◌, ℕ, zero, suc, ◌+◌, ◌<◌, Bool, true, false, ◌&&◌, ◌||◌, IsTrue, nat_lt, ◌==◌, sym, refl, ap, ◌∙◌, arith, false≢true, nat_tests, power_on, Pairs, each_with, hosts_below, or-false}
+use Rattle.pr_unit.proofs.Common.{◌≡◌, ℕ, zero, suc, ◌+◌, ◌<◌, Bool, true, false, ◌&&◌, ◌||◌, IsTrue, nat_lt, ◌==◌, sym, refl, ap, ◌∙◌, arith, false≢true, nat_tests, power_on, Pairs, each_with, hosts_below, or-false, contains-nobody}
 use Rattle.std.proofs.Common.{add-one}
 use Rattle.std.specs.FinSet as set
 use Rattle.pr_sets.proofs.lemmas.Members.{lt-suc, lt-zero}
 use Rattle.pr_attention.specs.Attentions.{is_attention}
-use Rattle.pr_registry.proofs.lemmas.Sets.{contains-nobody, contains-insert}
+use Rattle.pr_registry.proofs.lemmas.Sets.{contains-insert}
 use Rattle.pr_unit.specs.Laws.{ResetsTellEach, ResetsAreWellFormed}
 use Rattle.pr_unit.proofs.lemmas.Attentions.Pairs.{same_pairs, contains-insert-pair, contains-union-pairs, contains-each_with}
 

@@ -1,10 +1,7 @@
 -- What is pending for a nexus once it was told.
-use Rattle.pr_unit.proofs.Common.{◌≡◌, ℕ, Bool, true, false, refl, ◌&&◌, ◌||◌, ◌==◌, sym, ap, ◌∙◌, reservations_preempted, reservations_released, registrations_preempted, Pairs, each_with}
+use Rattle.pr_unit.proofs.Common.{◌≡◌, ℕ, Bool, true, false, refl, ◌&&◌, ◌||◌, ◌==◌, sym, ap, ◌∙◌, reservations_preempted, reservations_released, registrations_preempted, Pairs, each_with, no_change, contains-nobody, pending_after}
 use Rattle.std.specs.FinSet as set
 use Rattle.pr_registry.specs.declared.change.Change.{Change}
-use Rattle.pr_registry.specs.Changes.{no_change}
-use Rattle.pr_registry.proofs.lemmas.Sets.{contains-nobody}
-use Rattle.pr_unit.specs.UnitStates.{pending_after}
 use Rattle.pr_unit.proofs.lemmas.Attentions.Pairs.{same_pairs, contains-union-pairs, contains-each_with}
 
 -- a code is pending: it was, or one of the three was told

@@ -1,8 +1,7 @@
 -- Each request has an answer.
-use Rattle.pr_unit.proofs.Common.{◌≡◌, ℕ, Bool, true, false, ◌||◌, List, [], ◌∷◌, if◌then◌else◌, Some, None, Option, refl, Reply, Sense, Request, Plain, Faulty, power_on, command_fault, good, check, report, data_of, last_decision, decision, StepBy, UnitState, is_pending, is_any_pending, effect, after_report, Decision, PowerOn, Conflicting, Attention}
+use Rattle.pr_unit.proofs.Common.{◌≡◌, ℕ, Bool, true, false, ◌||◌, List, [], ◌∷◌, if◌then◌else◌, Some, None, Option, refl, Reply, Sense, Request, Plain, Faulty, power_on, command_fault, good, check, report, data_of, last_decision, decision, StepBy, UnitState, is_pending, is_any_pending, effect, after_report, Decision, PowerOn, Conflicting, Attention, conflicts, fault}
 use Rattle.std.specs.List.{list_any}
 use Rattle.pr_unit.specs.Attentions.{attentions}
-use Rattle.pr_unit.specs.Conduct.{conflicts, fault}
 use Rattle.pr_unit.specs.Replies.{conflict}
 use Rattle.pr_unit.specs.Laws.{EveryRequestHasAStep}
 

@@ -1,10 +1,8 @@
 -- What does not end GOOD, and what only looks, changes at most what is pending for the sender.
-use Rattle.pr_unit.proofs.Common.{◌≡◌, ℕ, false, not, ◌&&◌, IsTrue, ◌==◌, sym, refl, ap, ◌∙◌, subst, false≢true, and_parts, Command, Request, Plain, Faulty, power_on, Pairs, decision, StepBy, UnitState, effect, after_report, Decision, PowerOn, Attention, Done}
-use Rattle.std.proofs.Common.{◌⊎◌, inl, inr, ne_eqb}
+use Rattle.pr_unit.proofs.Common.{◌≡◌, ℕ, false, not, ◌&&◌, IsTrue, ◌==◌, sym, refl, ap, ◌∙◌, subst, false≢true, and_parts, Command, Request, Plain, Faulty, power_on, Pairs, decision, StepBy, UnitState, effect, after_report, Decision, PowerOn, Attention, Done, ◌⊎◌, inl, inr, no_change, pending_after}
+use Rattle.std.proofs.Common.{ne_eqb}
 use Rattle.std.specs.FinSet as set
 use Rattle.pr_cdb.specs.declared.command.Command.TheVariants.{TestUnitReady, RequestSense, Read, Write, ReadKeys, ReadReservation, ReportCapabilities}
-use Rattle.pr_registry.specs.Changes.{no_change}
-use Rattle.pr_unit.specs.UnitStates.{pending_after}
 use Rattle.pr_unit.specs.Replies.{is_good}
 use Rattle.pr_unit.specs.Laws.{IsQuiet, request_looks, QuietSteps}
 use Rattle.pr_unit.proofs.lemmas.Attentions.Pairs.{contains-remove-pair}

@@ -1,9 +1,8 @@
 -- The unit by itself answers neither BUSY nor TASK SET FULL.
-use Rattle.pr_unit.proofs.Common.{◌≡◌, ℕ, Bool, true, false, if◌then◌else◌, refl, Reply, Request, Faulty, power_on, good, check, report, decision, StepBy, UnitState, Decision, PowerOn, Attention, Done}
+use Rattle.pr_unit.proofs.Common.{◌≡◌, ℕ, Bool, true, false, if◌then◌else◌, refl, Reply, Request, Faulty, power_on, good, check, report, decision, StepBy, UnitState, Decision, PowerOn, Attention, Done, is_request_sense}
 use Rattle.pr_cdb.specs.ReplyData.{sense_bytes}
 use Rattle.pr_cdb.specs.Statuses.{is_busy_status, is_full_status}
 use Rattle.pr_unit.specs.Attentions.{attention_sense}
-use Rattle.pr_unit.specs.Replies.{is_request_sense}
 use Rattle.pr_unit.specs.Laws.{StepsAreNeverBusy}
 
 abbrev IsOwn : Reply → Type 0

@@ -1,9 +1,8 @@
 -- A step leaves a well formed state well formed, and keeps the number of hosts.
-use Rattle.pr_unit.proofs.Common.{◌≡◌, ℕ, ◌<◌, Bool, true, false, not, ◌&&◌, if◌then◌else◌, ◌==◌, Some, None, Option, sym, refl, ap, ◌∙◌, subst, and_parts, Reply, Sense, Request, Plain, Faulty, power_on, last_decision, decision, StepBy, Step, UnitState, is_pending, is_any_pending, IsWellFormed, effect, after_report, Decision, PowerOn, Conflicting, Attention, Done, AtFault}
+use Rattle.pr_unit.proofs.Common.{◌≡◌, ℕ, ◌<◌, Bool, true, false, not, ◌&&◌, if◌then◌else◌, ◌==◌, Some, None, Option, sym, refl, ap, ◌∙◌, subst, and_parts, Reply, Sense, Request, Plain, Faulty, power_on, last_decision, decision, StepBy, Step, UnitState, is_pending, is_any_pending, IsWellFormed, effect, after_report, Decision, PowerOn, Conflicting, Attention, Done, AtFault, conflicts, fault}
 use Rattle.std.specs.Prelude.{Ok}
 use Rattle.std.specs.FinSet as set
 use Rattle.pr_cdb.specs.Ranges.{FitsWhereRead}
-use Rattle.pr_unit.specs.Conduct.{conflicts, fault}
 use Rattle.pr_unit.specs.Follows.{IsFollowed}
 use Rattle.pr_unit.proofs.lemmas.Attentions.Pairs.{contains-remove-pair}
 use Rattle.pr_unit.proofs.lemmas.UnitStates.Effects.{effects_are_well_formed, hosts-after}

@@ -1,8 +1,8 @@
 -- Whether a request ends GOOD is fixed by the state, the host and the request.
-use Rattle.pr_unit.proofs.Common.{◌≡◌, ℕ, Bool, true, false, if◌then◌else◌, sym, refl, ap, ◌∙◌, Reply, Request, Plain, Faulty, power_on, good, check, report, decision, StepBy, Step, ends_good, UnitState, Decision, PowerOn, Attention, Done}
+use Rattle.pr_unit.proofs.Common.{◌≡◌, ℕ, Bool, true, false, if◌then◌else◌, sym, refl, ap, ◌∙◌, Reply, Request, Plain, Faulty, power_on, good, check, report, decision, StepBy, Step, ends_good, UnitState, Decision, PowerOn, Attention, Done, is_request_sense}
 use Rattle.pr_cdb.specs.ReplyData.{sense_bytes}
 use Rattle.pr_unit.specs.Attentions.{attention_sense}
-use Rattle.pr_unit.specs.Replies.{is_good, is_request_sense}
+use Rattle.pr_unit.specs.Replies.{is_good}
 use Rattle.pr_unit.specs.Steps.{IsDone}
 use Rattle.pr_unit.specs.Laws.{GoodIsFixed}
 

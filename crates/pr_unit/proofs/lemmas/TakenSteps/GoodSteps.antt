@@ -1,9 +1,7 @@
 -- The steps that end GOOD: such a step of a command other than REQUEST SENSE has the command's effect, and
 -- where nothing is in its way there is one.
-use Rattle.pr_unit.proofs.Common.{◌≡◌, ℕ, Bool, true, false, if◌then◌else◌, None, Option, sym, refl, ◌∙◌, subst, false≢true, Command, Sense, Plain, power_on, command_fault, good, data_of, last_decision, decision, StepBy, ends_good, UnitState, is_pending, is_any_pending, effect, Decision, PowerOn, Conflicting, Attention, Done, AtFault}
+use Rattle.pr_unit.proofs.Common.{◌≡◌, ℕ, Bool, true, false, if◌then◌else◌, None, Option, sym, refl, ◌∙◌, subst, false≢true, Command, Sense, Plain, power_on, command_fault, good, data_of, last_decision, decision, StepBy, ends_good, UnitState, is_pending, is_any_pending, effect, Decision, PowerOn, Conflicting, Attention, Done, AtFault, command_conflicts, is_request_sense}
 use Rattle.std.proofs.lemmas.Bool.{or_parts}
-use Rattle.pr_unit.specs.Conduct.{command_conflicts}
-use Rattle.pr_unit.specs.Replies.{is_request_sense}
 use Rattle.pr_unit.specs.Laws.{TakesEffect, GoodStepsTakeEffect, FreeCommandsEndGood}
 use Rattle.pr_unit.proofs.lemmas.TakenSteps.Determinism.{good_by_decision}
 use Rattle.pr_unit.proofs.lemmas.Steps.WellFormedSteps.{done_is_free}

@@ -1,17 +1,16 @@
 -- A command without conflict and fault leaves a well formed state well formed.
-use Rattle.pr_unit.proofs.Common.{◌≡◌, ℕ, ◌<◌, Bool, true, false, not, ◌||◌, if◌then◌else◌, IsTrue, ◌==◌, Some, None, Option, sym, refl, ◌∙◌, subst, arith, false≢true, nat_tests, MOST_NEXUSES, Command, reservations_preempted, reservations_released, registrations_preempted, Pairs, each_with, UnitState, IsWellFormed, and_parts}
+use Rattle.pr_unit.proofs.Common.{◌≡◌, ℕ, ◌<◌, Bool, true, false, not, ◌||◌, if◌then◌else◌, IsTrue, ◌==◌, Some, None, Option, sym, refl, ◌∙◌, subst, arith, false≢true, nat_tests, MOST_NEXUSES, Command, reservations_preempted, reservations_released, registrations_preempted, Pairs, each_with, UnitState, IsWellFormed, and_parts, Kind, Hosts, no_change, is_pending, effect, pending_after}
 use Rattle.std.proofs.Common.{is_some}
 use Rattle.std.specs.FinSet as set
 use Rattle.std.specs.FinMap as map
 use Rattle.std.proofs.lemmas.Bool.{eq-eqb, false_from_ne_true}
 use Rattle.pr_cdb.specs.declared.codes.TheConstants.{INVALID_FIELD_IN_CDB, INVALID_FIELD_IN_PARAMETER_LIST}
-use Rattle.pr_cdb.specs.declared.command.Kind.{Kind}
 use Rattle.pr_registry.specs.declared.change.Change.{Change}
 use Rattle.pr_registry.specs.declared.held.Held.{Held}
 use Rattle.pr_registry.specs.declared.held.Held.TheVariants.{One, All}
-use Rattle.pr_registry.specs.Hosts.{Hosts, Keys, just, without}
+use Rattle.pr_registry.specs.Hosts.{Keys, just, without}
 use Rattle.pr_registry.specs.Registrations.{State, key_of, is_registered, IsWellFormed as IsWellFormedRegistry}
-use Rattle.pr_registry.specs.Changes.{Case, ReplacesAll, ReplacesHolder, RemovesKey, no_change, is_held_by_all, preempt_case, is_replacing, HasKindIfReplacing, removed_by_preempt, change_on_unregister}
+use Rattle.pr_registry.specs.Changes.{Case, ReplacesAll, ReplacesHolder, RemovesKey, is_held_by_all, preempt_case, is_replacing, HasKindIfReplacing, removed_by_preempt, change_on_unregister}
 use Rattle.pr_registry.specs.Effects.{without_registration}
 use Rattle.pr_registry.proofs.lemmas.Sets.{get-insert, get-empty, get-without}
 use Rattle.pr_registry.proofs.lemmas.States.{well_formed-registered, well_formed-unregistered, well_formed-reserved, well_formed-released, well_formed-cleared, well_formed-preempted}
@@ -20,7 +19,7 @@ use Rattle.pr_unit.specs.declared.demand.Demand.TheVariants.{Register, Unregiste
 use Rattle.pr_unit.specs.Attentions.{is_attention}
 use Rattle.pr_unit.specs.Demands.{Asked, demand_of, named}
 use Rattle.pr_unit.specs.Conduct.{illegal, preempt_fault, preempt_all_fault, conduct}
-use Rattle.pr_unit.specs.UnitStates.{is_pending, after, change, effect, pending_after}
+use Rattle.pr_unit.specs.UnitStates.{after, change}
 use Rattle.pr_unit.specs.Laws.{EffectsAreWellFormed}
 use Rattle.pr_unit.specs.inside.Readiness.{IsReady}
 use Rattle.pr_unit.specs.inside.Told.{AreBelow, TellsBelow}

@@ -1,16 +1,13 @@
 -- A RELEASE that releases nothing.
-use Rattle.pr_unit.proofs.Common.{◌≡◌, ℕ, Bool, true, false, ◌&&◌, if◌then◌else◌, Some, None, Option, refl, ap, ◌∙◌, Command, UnitState, effect}
-use Rattle.std.proofs.Common.{◌⊎◌, inl, inr}
+use Rattle.pr_unit.proofs.Common.{◌≡◌, ℕ, Bool, true, false, ◌&&◌, if◌then◌else◌, Some, None, Option, refl, ap, ◌∙◌, Command, UnitState, effect, ◌⊎◌, inl, inr, Kind, Hosts, no_change, contains-nobody}
 use Rattle.std.specs.FinSet as set
 use Rattle.std.proofs.lemmas.Bool.{and_right}
 use Rattle.pr_cdb.specs.declared.command.Command.TheVariants as command
-use Rattle.pr_cdb.specs.declared.command.Kind.{Kind}
 use Rattle.pr_registry.specs.declared.held.Held.{Held}
-use Rattle.pr_registry.specs.Hosts.{Hosts, nobody}
+use Rattle.pr_registry.specs.Hosts.{nobody}
 use Rattle.pr_registry.specs.Registrations.{others, is_holder, kind_of}
-use Rattle.pr_registry.specs.Changes.{no_change, is_held_as, is_kind, is_released, is_told_of_loss}
+use Rattle.pr_registry.specs.Changes.{is_held_as, is_kind, is_released, is_told_of_loss}
 use Rattle.pr_registry.proofs.lemmas.Kinds.{same_kind}
-use Rattle.pr_registry.proofs.lemmas.Sets.{contains-nobody}
 use Rattle.pr_unit.proofs.lemmas.Attentions.ToldAttentions.{contains-untold}
 use Rattle.pr_unit.proofs.lemmas.UnitStates.AlikeStates.{IsLike}
 

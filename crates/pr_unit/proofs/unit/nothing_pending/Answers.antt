@@ -1,7 +1,6 @@
-use Rattle.pr_unit.proofs.Common.{◌≡◌, ℕ, zero, suc, ◌&&◌, List, [], ◌∷◌, nat_lt, sym, refl, ap, ◌∙◌, arith, MOST_NEXUSES, Codes, no_code, contains-no_code, place, table_pairs}
+use Rattle.pr_unit.proofs.Common.{◌≡◌, ℕ, zero, suc, ◌&&◌, List, [], ◌∷◌, nat_lt, sym, refl, ap, ◌∙◌, arith, MOST_NEXUSES, Codes, no_code, contains-no_code, place, table_pairs, All}
 use Rattle.std.proofs.Common.{rules}
 use Rattle.std.specs.FinSet as set
-use Rattle.std.specs.List.{All}
 use Rattle.std.proofs.Math.Bool.{and-false}
 use Rattle.pr_unit.proofs.lemmas.Attentions.Pairs.{same_pairs, contains-none, contains-table_pairs}
 use Rattle.pr_unit.proofs.unit.nothing_pending.Goals as goal

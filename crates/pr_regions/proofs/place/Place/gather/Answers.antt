@@ -1,5 +1,5 @@
+use Rattle.pr_regions.proofs.Common.{view_in}
 use Rattle.std.proofs.lemmas.Option.{IfSome_then}
-use Rattle.pr_views.specs.Portions.{view_in}
 use Rattle.pr_regions.proofs.lemmas.Portions.GatheredStates.{IsPortionOf, is_portion, at_from_in, in_from_at, if_none}
 use Rattle.pr_regions.proofs.place.Place.gather.Goals as goal
 

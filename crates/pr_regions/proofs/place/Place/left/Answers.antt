@@ -1,7 +1,5 @@
-use Rattle.pr_regions.proofs.Common.{◌<◌, ℕ, Bool, ◌&&◌, length, sym, ap, ◌∙◌, arith, has}
+use Rattle.pr_regions.proofs.Common.{◌<◌, ℕ, Bool, ◌&&◌, length, sym, ap, ◌∙◌, arith, has, has_at, holds_at-get_or, holds_at_kept}
 use Rattle.std.proofs.lemmas.List.{length-set}
-use Rattle.pr_views.specs.Portions.{has_at}
-use Rattle.pr_views.proofs.lemmas.Rooms.Places.{holds_at-get_or, holds_at_kept}
 use Rattle.pr_regions.proofs.lemmas.Portions.WordArrays.{one_more, left_to_each}
 use Rattle.pr_regions.proofs.place.Place.left.Goals as goal
 

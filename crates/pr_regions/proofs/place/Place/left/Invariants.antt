@@ -1,6 +1,4 @@
-use Rattle.pr_regions.proofs.Common.{◌≡◌, ◌<◌, ◌≤◌, ℕ, false, ◌&&◌, length, has}
-use Rattle.pr_cdb.specs.declared.codes.TheConstants.{MOST_NEXUSES}
-use Rattle.pr_views.specs.Portions.{has_at}
+use Rattle.pr_regions.proofs.Common.{◌≡◌, ◌<◌, ◌≤◌, ℕ, false, ◌&&◌, length, has, MOST_NEXUSES, has_at}
 use Rattle.pr_regions.proofs.place.Place.left.Given as goal
 
 abbrev pub invariant-loop-host : goal.invariant-loop-host

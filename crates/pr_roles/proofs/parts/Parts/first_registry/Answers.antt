@@ -1,6 +1,5 @@
 -- What is found, and that it is well formed and allowed.
-use Rattle.pr_roles.proofs.Common.{length, is_some, Some, option_map, sym, ap, ◌∙◌, arith, false≢true, quiet_unit}
-use Rattle.pr_roles.specs.Scenarios.{scenario_of}
+use Rattle.pr_roles.proofs.Common.{length, is_some, Some, option_map, sym, ap, ◌∙◌, arith, false≢true, quiet_unit, scenario_of}
 use Rattle.pr_roles.proofs.lemmas.Starts.AllowedStarts.{few_parts, found_in_parts, none_allowed, registry_found, registry_allowed, first_allowed}
 use Rattle.pr_roles.proofs.parts.Parts.first_registry.Goals as goal
 

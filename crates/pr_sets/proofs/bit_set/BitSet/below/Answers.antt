@@ -1,4 +1,4 @@
-use Rattle.std.specs.Int.{w16}
+use Rattle.pr_sets.proofs.Common.{w16}
 use Rattle.pr_sets.proofs.lemmas.WordBits.{has-below}
 use Rattle.pr_sets.proofs.bit_set.BitSet.below.Goals as goal
 

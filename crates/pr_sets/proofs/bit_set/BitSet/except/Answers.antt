@@ -1,5 +1,4 @@
-use Rattle.std.proofs.Common.{◌^◌, ◌<◌, arith}
-use Rattle.std.specs.Int.{w16}
+use Rattle.pr_sets.proofs.Common.{◌^◌, ◌<◌, arith, w16}
 use Rattle.pr_sets.proofs.lemmas.WordBits.{has-except}
 use Rattle.pr_sets.proofs.bit_set.BitSet.except.Goals as goal
 

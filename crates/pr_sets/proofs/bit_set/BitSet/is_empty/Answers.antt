@@ -1,6 +1,4 @@
-use Rattle.std.proofs.Common.{◌^◌, ◌<◌, arith}
-use Rattle.std.specs.Int.{w16, trailing_zeros}
-use Rattle.std.proofs.lemmas.Bool.Decides.{nat_tests}
+use Rattle.pr_sets.proofs.Common.{◌^◌, ◌<◌, arith, w16, trailing_zeros, nat_tests}
 use Rattle.pr_sets.proofs.lemmas.BitSets.{least_there}
 use Rattle.pr_sets.proofs.bit_set.BitSet.is_empty.Goals as goal
 

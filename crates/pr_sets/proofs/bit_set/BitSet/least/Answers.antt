@@ -1,4 +1,4 @@
-use Rattle.std.proofs.Common.{◌^◌, ◌<◌, arith}
+use Rattle.pr_sets.proofs.Common.{◌^◌, ◌<◌, arith}
 use Rattle.pr_sets.proofs.lemmas.BitSets.{least_there}
 use Rattle.pr_sets.proofs.bit_set.BitSet.least.Goals as goal
 

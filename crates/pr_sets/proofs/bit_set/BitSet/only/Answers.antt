@@ -1,4 +1,4 @@
-use Rattle.std.specs.Int.{w16}
+use Rattle.pr_sets.proofs.Common.{w16}
 use Rattle.pr_sets.proofs.lemmas.WordBits.{has-only}
 use Rattle.pr_sets.proofs.bit_set.BitSet.only.Goals as goal
 

@@ -1,4 +1,4 @@
-use Rattle.std.proofs.Common.{◌^◌, ◌<◌, arith}
+use Rattle.pr_sets.proofs.Common.{◌^◌, ◌<◌, arith}
 use Rattle.pr_sets.proofs.lemmas.BitSets.{has-without}
 use Rattle.pr_sets.proofs.bit_set.BitSet.without.Goals as goal
 

@@ -1,6 +1,5 @@
-use Rattle.std.proofs.Common.{◌≡◌, ap, ◌∙◌}
+use Rattle.pr_sets.proofs.Common.{◌≡◌, ap, ◌∙◌, numbers_in}
 use Rattle.std.specs.List.{insert}
-use Rattle.pr_sets.specs.Kept.{numbers_in}
 use Rattle.pr_sets.proofs.lemmas.Members.{AllBelow-insert}
 use Rattle.pr_sets.proofs.lemmas.Lists.{IsGap, gap_at, found_at, put_found, numbers_in-insert, increasing-insert}
 use Rattle.pr_sets.proofs.list_set.ListSet.put.Goals as goal

@@ -1,4 +1,4 @@
-use Rattle.std.proofs.Common.{◌∙◌}
+use Rattle.pr_sets.proofs.Common.{◌∙◌}
 use Rattle.pr_sets.proofs.lemmas.Lists.{has_by_search}
 use Rattle.pr_sets.proofs.list_set.ListSetViewSet.has.Goals as goal
 

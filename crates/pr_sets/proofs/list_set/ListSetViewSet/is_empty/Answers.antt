@@ -1,5 +1,4 @@
-use Rattle.std.proofs.Common.{◌≡◌, length, arith}
-use Rattle.std.proofs.lemmas.Bool.Decides.{nat_tests}
+use Rattle.pr_sets.proofs.Common.{◌≡◌, length, arith, nat_tests}
 use Rattle.pr_sets.proofs.lemmas.Lists.{empty_from_length, length_from_empty}
 use Rattle.pr_sets.proofs.list_set.ListSetViewSet.is_empty.Goals as goal
 

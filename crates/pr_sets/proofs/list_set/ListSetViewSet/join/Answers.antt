@@ -1,6 +1,6 @@
-use Rattle.std.proofs.Common.{◌≡◌, ◌<◌, ℕ, List, length, get_or, refl, sym, ap, subst, ◌∙◌, arith}
+use Rattle.pr_sets.proofs.Common.{◌≡◌, ◌<◌, ℕ, List, length, refl, sym, ap, subst, ◌∙◌, arith, numbers_in}
+use Rattle.std.proofs.Common.{get_or}
 use Rattle.std.specs.FinSet as set
-use Rattle.pr_sets.specs.Kept.{numbers_in}
 use Rattle.pr_sets.proofs.lemmas.Lists.{has_at, union_none, union_more}
 use Rattle.pr_sets.proofs.list_set.ListSetViewSet.join.Goals as goal
 

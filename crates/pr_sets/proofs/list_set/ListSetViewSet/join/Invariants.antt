@@ -1,7 +1,7 @@
-use Rattle.std.proofs.Common.{◌≡◌, ◌+◌, ◌-◌, ◌≤◌, vec_len, length, take}
+use Rattle.pr_sets.proofs.Common.{◌≡◌, ◌+◌, ◌-◌, ◌≤◌, length, numbers_in}
+use Rattle.std.proofs.Common.{vec_len, take}
 use Rattle.std.specs.FinSet as set
 use Rattle.std.specs.Vec.{vec_capacity}
-use Rattle.pr_sets.specs.Kept.{numbers_in}
 use Rattle.pr_sets.proofs.list_set.ListSetViewSet.join.Given as goal
 
 abbrev pub invariant-loop-n : goal.invariant-loop-n

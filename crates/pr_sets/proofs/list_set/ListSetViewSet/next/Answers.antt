@@ -1,4 +1,5 @@
-use Rattle.std.proofs.Common.{◌≡◌, ◌∙◌, ℕ, List, nat_lt, slice_get, subst, sym, rules, of_calls}
+use Rattle.pr_sets.proofs.Common.{◌≡◌, ◌∙◌, ℕ, List, nat_lt, subst, sym}
+use Rattle.std.proofs.Common.{slice_get, rules, of_calls}
 use Rattle.std.specs.List.Sorted.{IsStrictlyIncreasing}
 use Rattle.std.proofs.lemmas.List.Sorted.{IsPartitionPoint-from_clause}
 use Rattle.pr_sets.proofs.lemmas.Lists.{IsStart, tests_fall, got, answers_some, answers_none}

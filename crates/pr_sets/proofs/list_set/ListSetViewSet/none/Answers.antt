@@ -1,4 +1,4 @@
-use Rattle.std.proofs.Common.{ap, length, arith}
+use Rattle.pr_sets.proofs.Common.{ap, length, arith}
 use Rattle.pr_sets.proofs.lemmas.Members.{AllBelow-empty}
 use Rattle.pr_sets.proofs.list_set.ListSetViewSet.none.Goals as goal
 

@@ -1,7 +1,5 @@
-use Rattle.std.proofs.Common.{sym, ap, ◌∙◌}
+use Rattle.pr_sets.proofs.Common.{sym, ap, ◌∙◌, numbers_in, has_wide}
 use Rattle.std.specs.FinSet as set
-use Rattle.pr_sets.specs.Kept.{numbers_in}
-use Rattle.pr_sets.specs.Wides.{has_wide}
 use Rattle.pr_sets.specs.declared.list_set.ListSet.{ListSet}
 use Rattle.pr_sets.proofs.lemmas.Members.{contains-empty}
 use Rattle.pr_sets.proofs.lemmas.Fronts.{front_none, front_skips, added}

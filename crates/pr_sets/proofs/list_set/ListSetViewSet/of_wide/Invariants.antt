@@ -1,7 +1,6 @@
+use Rattle.pr_sets.proofs.Common.{has_wide, numbers_in}
 use Rattle.std.specs.Prelude.{◌≡◌}
 use Rattle.std.specs.FinSet as set
-use Rattle.pr_sets.specs.Wides.{has_wide}
-use Rattle.pr_sets.specs.Kept.{numbers_in}
 use Rattle.pr_sets.proofs.lemmas.Fronts.{IsFront}
 use Rattle.pr_sets.proofs.list_set.ListSetViewSet.of_wide.Given as goal
 

@@ -1,6 +1,5 @@
 use Rattle.std.specs.FinSet as set
-use Rattle.pr_sets.specs.Wides.{has_wide}
-use Rattle.pr_sets.specs.Kept.{numbers_in}
+use Rattle.pr_sets.proofs.Common.{has_wide, numbers_in}
 use Rattle.pr_sets.proofs.lemmas.Fronts.{IsFront}
 use Rattle.pr_sets.proofs.list_set.ListSetViewSet.wide.Given as goal
 

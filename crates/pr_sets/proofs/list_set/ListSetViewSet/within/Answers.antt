@@ -1,9 +1,9 @@
-use Rattle.std.proofs.Common.{◌≡◌, rules, tests, sym, ◌∙◌}
+use Rattle.pr_sets.proofs.Common.{◌≡◌, sym, ◌∙◌, numbers_in}
+use Rattle.std.proofs.Common.{rules, tests}
 use Rattle.std.specs.FinSet as set
 use Rattle.std.specs.List.{list_all}
 use Rattle.std.proofs.lemmas.Iterator.{YieldsList-from_slice}
 use Rattle.std.proofs.lemmas.Iterator.Search.{all_from_yields_List}
-use Rattle.pr_sets.specs.Kept.{numbers_in}
 use Rattle.pr_sets.proofs.lemmas.Lists.{Within-from_all, all_from_Within}
 use Rattle.pr_sets.proofs.list_set.ListSetViewSet.within.Goals as goal
 

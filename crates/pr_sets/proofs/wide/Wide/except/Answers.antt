@@ -1,5 +1,4 @@
-use Rattle.std.proofs.Common.{◌^◌, ◌<◌, arith}
-use Rattle.std.specs.Int.{w128}
+use Rattle.pr_sets.proofs.Common.{◌^◌, ◌<◌, arith, w128}
 use Rattle.pr_sets.proofs.lemmas.WordBits.{has-except}
 use Rattle.pr_sets.proofs.wide.Wide.except.Goals as goal
 

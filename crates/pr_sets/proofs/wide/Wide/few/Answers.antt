@@ -1,4 +1,4 @@
-use Rattle.std.proofs.Common.{arith}
+use Rattle.pr_sets.proofs.Common.{arith}
 use Rattle.pr_sets.proofs.lemmas.Wides.{fits_few}
 use Rattle.pr_sets.proofs.wide.Wide.few.Goals as goal
 

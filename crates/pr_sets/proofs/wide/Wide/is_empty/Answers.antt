@@ -1,6 +1,4 @@
-use Rattle.std.proofs.Common.{◌^◌, ◌<◌, arith}
-use Rattle.std.specs.Int.{w128, trailing_zeros}
-use Rattle.std.proofs.lemmas.Bool.Decides.{nat_tests}
+use Rattle.pr_sets.proofs.Common.{◌^◌, ◌<◌, arith, w128, trailing_zeros, nat_tests}
 use Rattle.pr_sets.proofs.lemmas.Wides.{some_there}
 use Rattle.pr_sets.proofs.wide.Wide.is_empty.Goals as goal
 

@@ -1,5 +1,4 @@
-use Rattle.std.proofs.Common.{◌<◌, ◌^◌, arith}
-use Rattle.std.specs.Int.{w128}
+use Rattle.pr_sets.proofs.Common.{◌<◌, ◌^◌, arith, w128}
 use Rattle.pr_sets.proofs.lemmas.BitPlaces.{placed-has}
 use Rattle.pr_sets.proofs.wide.Wide.of_bits.Goals as goal
 

@@ -1,4 +1,4 @@
-use Rattle.std.specs.Int.{w128}
+use Rattle.pr_sets.proofs.Common.{w128}
 use Rattle.pr_sets.proofs.lemmas.WordBits.{has-only}
 use Rattle.pr_sets.proofs.wide.Wide.only.Goals as goal
 

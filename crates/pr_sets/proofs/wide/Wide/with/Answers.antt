@@ -1,4 +1,4 @@
-use Rattle.std.specs.Int.{w128}
+use Rattle.pr_sets.proofs.Common.{w128}
 use Rattle.pr_sets.proofs.lemmas.WordBits.{has-with}
 use Rattle.pr_sets.proofs.wide.Wide.with.Goals as goal
 

@@ -1,5 +1,4 @@
-use Rattle.std.proofs.Common.{arith}
-use Rattle.std.specs.Int.{w128}
+use Rattle.pr_sets.proofs.Common.{arith, w128}
 use Rattle.pr_sets.proofs.lemmas.Members.{AllBelow-insert}
 use Rattle.pr_sets.proofs.lemmas.BitPlaces.{placed-insert}
 use Rattle.pr_sets.proofs.word_set.WordSetViewSet.add.Goals as goal

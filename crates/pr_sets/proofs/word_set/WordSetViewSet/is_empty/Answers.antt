@@ -1,7 +1,4 @@
-use Rattle.std.proofs.Common.{◌≡◌, ◌<◌, ◌^◌, ap, ◌∙◌, arith}
-use Rattle.std.specs.Int.{w128}
-use Rattle.std.proofs.lemmas.Bool.Decides.{nat_tests}
-use Rattle.pr_sets.specs.Kept.{numbers_of_bits}
+use Rattle.pr_sets.proofs.Common.{◌≡◌, ◌<◌, ◌^◌, ap, ◌∙◌, arith, w128, nat_tests, numbers_of_bits}
 use Rattle.pr_sets.proofs.lemmas.BitPlaces.{placed-zero, zero_from_empty}
 use Rattle.pr_sets.proofs.word_set.WordSetViewSet.is_empty.Goals as goal
 

@@ -1,7 +1,5 @@
-use Rattle.std.proofs.Common.{ℕ, subst}
-use Rattle.std.specs.Int.{w128}
+use Rattle.pr_sets.proofs.Common.{ℕ, subst, w128, numbers_of_bits}
 use Rattle.pr_sets.specs.Numbers.{AllBelow}
-use Rattle.pr_sets.specs.Kept.{numbers_of_bits}
 use Rattle.pr_sets.proofs.lemmas.Members.{AllBelow-union}
 use Rattle.pr_sets.proofs.lemmas.BitPlaces.{placed-union}
 use Rattle.pr_sets.proofs.word_set.WordSetViewSet.join.Goals as goal

@@ -1,4 +1,4 @@
-use Rattle.std.proofs.Common.{◌<◌, ◌/◌, ◌^◌, refl, arith}
+use Rattle.pr_sets.proofs.Common.{◌<◌, ◌/◌, ◌^◌, refl, arith}
 use Rattle.std.proofs.Math.Nat.{div-le_self}
 use Rattle.pr_sets.proofs.lemmas.Bits.{none_from_zero, next_by_zeros}
 use Rattle.pr_sets.proofs.word_set.WordSetViewSet.next.Goals as goal

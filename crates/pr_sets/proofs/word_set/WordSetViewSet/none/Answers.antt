@@ -1,4 +1,4 @@
-use Rattle.std.specs.Int.{w128}
+use Rattle.pr_sets.proofs.Common.{w128}
 use Rattle.pr_sets.proofs.lemmas.Members.{AllBelow-empty}
 use Rattle.pr_sets.proofs.lemmas.BitPlaces.{placed-zero}
 use Rattle.pr_sets.proofs.word_set.WordSetViewSet.none.Goals as goal

@@ -1,5 +1,4 @@
-use Rattle.std.proofs.Common.{◌<◌, ◌^◌, sym, ◌∙◌, arith}
-use Rattle.std.specs.Int.{w128}
+use Rattle.pr_sets.proofs.Common.{◌<◌, ◌^◌, sym, ◌∙◌, arith, w128}
 use Rattle.pr_sets.proofs.lemmas.BitPlaces.{placed-has}
 use Rattle.pr_sets.proofs.word_set.WordSetViewSet.of_wide.Goals as goal
 

@@ -1,6 +1,4 @@
-use Rattle.std.proofs.Common.{◌≡◌, ◌<◌, ◌^◌, arith, bit_and}
-use Rattle.std.specs.Int.{w128, bit_not}
-use Rattle.std.proofs.lemmas.Bool.Decides.{nat_tests}
+use Rattle.pr_sets.proofs.Common.{◌≡◌, ◌<◌, ◌^◌, arith, bit_and, w128, bit_not, nat_tests}
 use Rattle.std.proofs.lemmas.Nat.{and_le_l}
 use Rattle.pr_sets.proofs.lemmas.Bits.{within_from_none_left, none_left_from_within}
 use Rattle.pr_sets.proofs.word_set.WordSetViewSet.within.Goals as goal

@@ -1,7 +1,5 @@
 -- A command that neither conflicts nor is at fault leaves a well formed state well formed.
-use Rattle.std.proofs.Common.{◌≡◌, ◌<◌, false, None, sym, subst}
-use Rattle.pr_unit.specs.Conduct.{command_conflicts, command_fault}
-use Rattle.pr_unit.specs.UnitStates.{UnitState, IsWellFormed, unit_of}
+use Rattle.pr_unit.proofs.Common.{◌≡◌, ◌<◌, false, None, sym, subst, command_conflicts, command_fault, UnitState, IsWellFormed, unit_of}
 use Rattle.pr_unit.proofs.lemmas.UnitStates.Effects.{effects_are_well_formed}
 use Rattle.pr_unit.proofs.unit.Unit.take_effect.Goals as goal
 
