@@ -67,7 +67,8 @@ fn conflicts(registry: &Registry, host: u8, request: Request) -> bool
     }
 }
 
-fn fault(registry: &Registry, host: u8, request: Request) -> Option<Sense>
+/// The fault of the request of the host, if it has one.
+pub(crate) fn fault(registry: &Registry, host: u8, request: Request) -> Option<Sense>
     requires { host < registry.now.hosts }
     ensures { result ≡ fault registry.now host request }
 {

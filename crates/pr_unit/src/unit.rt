@@ -8,12 +8,12 @@ ghost use Rattle.pr_unit.specs.Attentions.{place, table_pairs};
 
 use crate::answers::{answer, take_effect};
 use crate::conflicts::command_conflicts;
-use crate::decision::{decide, ends_good};
+use crate::decision::{decide, ends_good, fault};
 use crate::follows::follow;
 use crate::pending_table;
 use pr_attention::{Attention, Pending};
 use pr_cdb::codes::MOST_NEXUSES;
-use pr_cdb::{Bad, Command, Reply, Request, Wire, decode, in_range};
+use pr_cdb::{Bad, Command, Reply, Request, Sense, Wire, decode, in_range};
 use pr_registry::Registry;
 use std::array;
 use std::marker::Model;
@@ -122,6 +122,14 @@ impl Unit {
         ensures { result ≡ command_conflicts self.now.registry host command.now }
     {
         command_conflicts(&self.registry, host, *command)
+    }
+
+    /// The fault of the host's command, if it has one. A conflict, or what is pending, would be told before it.
+    pub fn fault(&self, host: u8, command: &Command) -> Option<Sense>
+        requires { host < self.now.registry.hosts }
+        ensures { result ≡ command_fault self.now.registry host command.now }
+    {
+        fault(&self.registry, host, Request::Plain(*command))
     }
 
     /// Whether the command of the host would end GOOD now.

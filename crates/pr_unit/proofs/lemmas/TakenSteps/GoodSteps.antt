@@ -1,6 +1,6 @@
 -- The steps that end GOOD: such a step of a command other than REQUEST SENSE has the command's effect, and
 -- where nothing is in its way there is one.
-use Rattle.pr_unit.proofs.Common.{◌≡◌, ℕ, Bool, true, false, if◌then◌else◌, None, Option, sym, refl, ◌∙◌, subst, false≢true, Command, Sense, Plain, power_on, command_fault, good, data_of, last_decision, decision, StepBy, ends_good, UnitState, is_pending, is_any_pending, effect, Decision, PowerOn, Conflicting, Attention, Done, AtFault, command_conflicts, is_request_sense}
+use Rattle.pr_unit.proofs.Common.{◌≡◌, ℕ, Bool, true, false, if◌then◌else◌, None, Option, sym, refl, ◌∙◌, subst, false≢true, Command, Sense, Plain, power_on, command_fault, good, data_of, last_decision, decision, StepBy, ends_good, UnitState, is_pending, is_any_pending, effect, Decision, PowerOn, Conflicting, Attention, Done, AtFault, command_conflicts}
 use Rattle.std.proofs.lemmas.Bool.{or_parts}
 use Rattle.pr_unit.specs.Laws.{TakesEffect, GoodStepsTakeEffect, FreeCommandsEndGood}
 use Rattle.pr_unit.proofs.lemmas.TakenSteps.Determinism.{good_by_decision}
@@ -19,17 +19,6 @@ good_effect u h c r v step good looks = by_decision (decision u h (Plain c)) ref
         let parts = done_is_free u h (Plain c) is in
         record { free = parts.0; whole = parts.1; reply = step.0; after = step.1 }
     by_decision _ is step ends = refused (sym looks ∙ ends)
-
--- what ends GOOD is free and without a fault, but for REQUEST SENSE
-pub good_is_free : (u : UnitState) (h : ℕ) (c : Command) → ends_good (decision u h (Plain c)) (Plain c) ≡ true → is_request_sense (Plain c) ≡ false
-    → (command_conflicts u.registry h c ≡ false) × (command_fault u.registry h c ≡ None)
-good_is_free u h c good looks = by_decision (decision u h (Plain c)) refl good
-  where
-    by_decision : (l : Decision) → decision u h (Plain c) ≡ l → ends_good l (Plain c) ≡ true → (command_conflicts u.registry h c ≡ false) × (command_fault u.registry h c ≡ None)
-    by_decision Conflicting is ends = absurd (false≢true ends)
-    by_decision (AtFault sense) is ends = absurd (false≢true ends)
-    by_decision Done is ends = done_is_free u h (Plain c) is
-    by_decision _ is ends = absurd (false≢true (sym looks ∙ ends))
 
 pub free_is_done : (u : UnitState) (h : ℕ) (c : Command) → is_any_pending u h ≡ false → command_conflicts u.registry h c ≡ false → command_fault u.registry h c ≡ None → decision u h (Plain c) ≡ Done
 free_is_done u h c none free whole =
