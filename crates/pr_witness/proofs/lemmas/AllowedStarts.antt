@@ -1,18 +1,15 @@
 -- That a start is allowed.
-use Rattle.std.proofs.Common.{◌≡◌, ℕ, ◌+◌, ◌<◌, ◌≤◌, Bool, true, false, ◌==◌, IsTrue, List, length, Option, Some, None, refl, sym, ◌∙◌, subst, below_more, arith}
-use Rattle.std.specs.Prelude.{map, option_map}
+use Rattle.pr_witness.proofs.Common.{◌≡◌, ℕ, ◌+◌, ◌<◌, List, length, Option, Some, None, refl, sym, ◌∙◌, subst, below_more, arith, map, slice_get, nat_tests, length-map, same_Some, slice_get_within, UnitState, Parts, scenario_of, IsAllowedStart, MayStartBelow}
+use Rattle.std.proofs.Common.{◌≤◌, Bool, true, false, ◌==◌, IsTrue}
+use Rattle.std.specs.Prelude.{option_map}
 use Rattle.std.specs.FinSet as set
-use Rattle.std.specs.List.{slice_get, Contains}
-use Rattle.std.proofs.lemmas.Bool.Decides.{nat_tests}
-use Rattle.std.proofs.lemmas.List.{length-map}
-use Rattle.std.proofs.lemmas.Option.{none-some, same_Some, slice_get-map, slice_get_within}
+use Rattle.std.specs.List.{Contains}
+use Rattle.std.proofs.lemmas.Option.{none-some, slice_get-map}
 use Rattle.pr_registry.specs.Registrations.{key_of}
-use Rattle.pr_unit.specs.UnitStates.{UnitState, IsWellFormed}
+use Rattle.pr_unit.specs.UnitStates.{IsWellFormed}
 use Rattle.pr_roles.specs.declared.parts.Nexus.{Nexus as NexusPart}
-use Rattle.pr_roles.specs.declared.parts.Parts.{Parts}
-use Rattle.pr_roles.specs.Scenarios.{Nexus, nexus_of, scenario_of}
-use Rattle.pr_roles.specs.Starts.{IsAllowedStart}
-use Rattle.pr_witness.specs.inside.Starting.{MayStart, MayStartBelow}
+use Rattle.pr_roles.specs.Scenarios.{Nexus, nexus_of}
+use Rattle.pr_witness.specs.inside.Starting.{MayStart}
 
 -- ---- nexuses
 

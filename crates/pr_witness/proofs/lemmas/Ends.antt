@@ -1,21 +1,17 @@
 -- How nexuses stand at the end of a followed history.
-use Rattle.std.proofs.Common.{◌≡◌, ℕ, zero, suc, ◌+◌, ◌<◌, ◌≤◌, List, [], ◌∷◌, ◌++◌, length, take, take_all, Option, Some, None, refl, sym, ap, ◌∙◌, subst, add-one, arith}
-use Rattle.std.specs.Prelude.{map, option_map}
+use Rattle.pr_witness.proofs.Common.{◌≡◌, ℕ, ◌+◌, ◌<◌, List, [], ◌∷◌, ◌++◌, length, take, Option, Some, None, refl, sym, ap, ◌∙◌, subst, arith, map, slice_get, length-map, same_Some, slice_get_within, Item, Parts, Scenario, scenario_of, World, ActFor}
+use Rattle.std.proofs.Common.{zero, suc, ◌≤◌, take_all, add-one}
+use Rattle.std.specs.Prelude.{option_map}
 use Rattle.std.specs.Option.{option_map_or}
-use Rattle.std.specs.List.{slice_get}
-use Rattle.std.proofs.lemmas.List.{length-map}
-use Rattle.std.proofs.lemmas.Option.{get_or_from_slice_get, none-some, same_Some, slice_get-map, slice_get_within}
+use Rattle.std.proofs.lemmas.Option.{get_or_from_slice_get, none-some, slice_get-map}
 use Rattle.pr_cdb.specs.declared.command.Command.{Command}
 use Rattle.pr_script.specs.Scripts.{Standing, Stmts, ready, stopped, standing_of_items}
-use Rattle.pr_roles.specs.declared.item.Item.{Item}
 use Rattle.pr_roles.specs.declared.parts.Nexus.{Nexus as NexusPart}
-use Rattle.pr_roles.specs.declared.parts.Parts.{Parts}
 use Rattle.pr_roles.specs.Fitting.{Fits}
 use Rattle.pr_roles.specs.Safety.{KeepsBudgetBy}
-use Rattle.pr_roles.specs.Scenarios.{Scenario, Nexus, Task, Planned, Scripted, nexus, nexus_of, scenario_of, task, task_of}
+use Rattle.pr_roles.specs.Scenarios.{Nexus, Task, Planned, Scripted, nexus, nexus_of, task, task_of}
 use Rattle.pr_roles.specs.Schedules.{plan_of}
-use Rattle.pr_roles.specs.Worlds.{World, Control, Going, Trapped, Free, commands_by, control}
-use Rattle.pr_audit.specs.Auditors.{ActFor}
+use Rattle.pr_roles.specs.Worlds.{Control, Going, Trapped, Free, commands_by, control}
 use Rattle.pr_audit.specs.inside.Auditing.{IsShort}
 use Rattle.pr_audit.specs.Ends.{Ending, ending, ending_by, endings, stops, waits, traps, leaves}
 use Rattle.pr_audit.proofs.lemmas.Auditing.Parts.{short_part}

@@ -1,33 +1,30 @@
 -- Histories that are followed, and what their last item breaks.
-use Rattle.std.proofs.Common.{◌≡◌, ℕ, ◌+◌, ◌<◌, true, false, List, [], ◌∷◌, ◌++◌, length, get_or, take, Some, None, refl, sym, ap, ◌∙◌, subst, arith}
+use Rattle.pr_witness.proofs.Common.{◌≡◌, ℕ, ◌+◌, ◌<◌, List, [], ◌∷◌, ◌++◌, length, take, Some, None, refl, sym, ap, ◌∙◌, subst, arith, length-map, UnitState, Item, Parts, Scenario, scenario_of, IsAllowedStart, World, ActFor, world_at, IsRunOf}
+use Rattle.std.proofs.Common.{true, false, get_or}
 use Rattle.std.specs.Prelude.{vec_len}
-use Rattle.std.proofs.lemmas.List.{length-map, take_more}
+use Rattle.std.proofs.lemmas.List.{take_more}
 use Rattle.pr_cdb.specs.declared.command.Command.{Command}
 use Rattle.pr_cdb.specs.declared.reply.Reply.{Reply}
 use Rattle.pr_cdb.specs.declared.wire.Request.TheVariants.{Plain}
 use Rattle.pr_cdb.specs.Spelling.{spelling}
-use Rattle.pr_unit.specs.UnitStates.{UnitState}
 use Rattle.pr_unit.specs.Replies.{is_good}
 use Rattle.pr_script.specs.Scripts.{ready}
 use Rattle.pr_roles.specs.declared.entry.Entry.{Entry}
 use Rattle.pr_roles.specs.declared.how.How.{How}
-use Rattle.pr_roles.specs.declared.item.Item.{Item}
 use Rattle.pr_roles.specs.declared.item.Item.TheVariants.{Sent, Reset}
 use Rattle.pr_roles.specs.Breaches.{Broken, meets_no_arm, leaves_role, exceeds_budget, Breaks, LeavesRole}
 use Rattle.pr_roles.specs.Permits.{is_permitted}
-use Rattle.pr_roles.specs.declared.parts.Parts.{Parts}
-use Rattle.pr_roles.specs.Scenarios.{Scenario, role, scenario_of}
-use Rattle.pr_roles.specs.Starts.{IsAllowedStart}
-use Rattle.pr_roles.specs.Worlds.{World, Event, Host, Guest, UnitReset, Happens, HostSends, control, entry_of, standing_of, world_from}
+use Rattle.pr_roles.specs.Scenarios.{role}
+use Rattle.pr_roles.specs.Worlds.{Event, Host, Guest, UnitReset, Happens, HostSends, control, entry_of, standing_of, world_from}
 use Rattle.pr_roles.proofs.lemmas.Scenarios.Parts.{count_of_parts}
 use Rattle.pr_audit.specs.declared.auditor.Auditor.{Auditor}
-use Rattle.pr_audit.specs.Auditors.{Adds, ActFor, IsTried, is_free, world_at, is_planned}
+use Rattle.pr_audit.specs.Auditors.{Adds, IsTried, is_free, is_planned}
 use Rattle.pr_audit.proofs.lemmas.Auditors.Additions.{guests_free, same_entry, same_item}
 use Rattle.pr_audit.proofs.lemmas.Auditing.Histories.{reaches_more}
 use Rattle.pr_witness.specs.declared.breach.Breach.{Breach}
 use Rattle.pr_witness.specs.declared.breach.CertifiedRun.{CertifiedRun}
 use Rattle.pr_witness.specs.Breaches.{IsBreachOf, broken_of}
-use Rattle.pr_witness.specs.CertifiedRuns.{IsRunOf, TellsOf}
+use Rattle.pr_witness.specs.CertifiedRuns.{TellsOf}
 use Rattle.pr_witness.specs.inside.Following.{IsBroken, IsRunFrom, IsFollowed, IsForbidden, LeavesWith}
 
 -- there is a script or a guest for each that the scenario declares

@@ -1,12 +1,9 @@
 -- What a breach says of its scenario.
-use Rattle.std.proofs.Common.{List, sym, ap, ◌∙◌}
+use Rattle.pr_witness.proofs.Common.{List, sym, ap, ◌∙◌, UnitState, Scenario, IsAllowedStart, World}
 use Rattle.std.proofs.lemmas.Bool.{false≢true}
-use Rattle.pr_unit.specs.UnitStates.{UnitState}
 use Rattle.pr_roles.specs.Breaches.{Broken, meets_no_arm, leaves_role, exceeds_budget, Breaks}
 use Rattle.pr_roles.specs.Safety.{IsSafe}
-use Rattle.pr_roles.specs.Scenarios.{Scenario}
-use Rattle.pr_roles.specs.Starts.{IsAllowedStart}
-use Rattle.pr_roles.specs.Worlds.{World, Event, Run, is_trapped, world_from}
+use Rattle.pr_roles.specs.Worlds.{Event, Run, is_trapped, world_from}
 use Rattle.pr_witness.specs.Breaches.{BreachesAreLegal, BreachesRefuteSafety}
 
 -- no run of a safe scenario has broken anything

@@ -1,8 +1,6 @@
 -- By the name, and what stands behind it.
-use Rattle.std.proofs.Common.{sym, ap, ◌∙◌}
-use Rattle.std.specs.Prelude.{option_and_then, option_map}
-use Rattle.pr_trace.specs.TraceText.{names_of}
-use Rattle.pr_commands.specs.Asked.{ask_at, ask_of}
+use Rattle.pr_commands.proofs.Common.{sym, ap, ◌∙◌, option_and_then, option_map, names_of, ask_of}
+use Rattle.pr_commands.specs.Asked.{ask_at}
 use Rattle.pr_commands.proofs.asked.ask_of.Goals as goal
 
 pub returns-in_err-equals-clause-ask : goal.returns-in_err-equals-clause-ask

@@ -1,16 +1,12 @@
 -- One word after another.
-use Rattle.std.proofs.Common.{◌≡◌, ℕ, ◌+◌, true, false, ◌&&◌, List, length, drop, Option, Some, None, option_map, sym, ap, ◌∙◌, arith}
-use Rattle.std.specs.Prelude.{map, replicate, slice_index_or, slice_set}
+use Rattle.pr_commands.proofs.Common.{◌≡◌, ℕ, ◌+◌, true, false, List, length, drop, Option, Some, None, sym, ap, ◌∙◌, arith, map, replicate, slice_index_or, Parts, scenario_of, task, End, names_in, names_of, has_script, ask_of, asks_from, exits_of}
+use Rattle.std.proofs.Common.{◌&&◌, option_map}
+use Rattle.std.specs.Prelude.{slice_set}
 use Rattle.std.specs.Borrow.{Bor}
 use Rattle.std.proofs.lemmas.List.{drop_more, length-replicate, length-set}
-use Rattle.pr_roles.specs.declared.parts.Parts.{Parts}
-use Rattle.pr_roles.specs.Scenarios.{scenario_of, task}
-use Rattle.pr_audit.specs.declared.end.End.{End}
-use Rattle.pr_trace.specs.TraceText.{names_in, names_of}
 use Rattle.pr_explore.specs.Exits.{Exit}
 use Rattle.pr_explore.specs.Together.{exit_in}
-use Rattle.pr_roles.specs.Tasks.{has_script}
-use Rattle.pr_commands.specs.Asked.{ask_of, asks_from, exits_of, is_free}
+use Rattle.pr_commands.specs.Asked.{is_free}
 use Rattle.pr_commands.proofs.lemmas.Ends.Asks.{ask_more, ask_none, ask_twice, exits_set, nothing_asked}
 use Rattle.pr_commands.proofs.lemmas.Replays.Plans.{names_of_scenario, nexuses_in}
 use Rattle.pr_commands.proofs.lemmas.Steps.Words.{few_nexuses}

@@ -1,8 +1,6 @@
 -- The words from this one on ask for what is left, and there is a place for each nexus.
-use Rattle.std.proofs.Common.{◌≡◌, length, drop}
-use Rattle.std.specs.Prelude.{map}
-use Rattle.pr_roles.specs.Scenarios.{scenario_of}
-use Rattle.pr_commands.specs.Asked.{asks_from, asks_of, exits_of}
+use Rattle.pr_commands.proofs.Common.{◌≡◌, length, drop, map, scenario_of, asks_from, exits_of}
+use Rattle.pr_commands.specs.Asked.{asks_of}
 use Rattle.pr_commands.proofs.asked.asks_of.Given as goal
 
 abbrev pub invariant-loop-word : goal.invariant-loop-word

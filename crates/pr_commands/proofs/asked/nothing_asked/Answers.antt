@@ -1,7 +1,5 @@
 -- One more, and then all.
-use Rattle.std.proofs.Common.{◌≡◌, List, [], ◌∷◌, ◌++◌, Option, None, ap, ◌∙◌, arith}
-use Rattle.std.specs.Prelude.{replicate}
-use Rattle.pr_audit.specs.declared.end.End.{End}
+use Rattle.pr_commands.proofs.Common.{◌≡◌, List, [], ◌∷◌, ◌++◌, Option, None, ap, ◌∙◌, arith, replicate, End}
 use Rattle.pr_commands.proofs.lemmas.Ends.Asks.{nothing_more}
 use Rattle.pr_commands.proofs.asked.nothing_asked.Goals as goal
 

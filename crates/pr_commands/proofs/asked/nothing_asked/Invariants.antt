@@ -1,6 +1,5 @@
 -- so many so far
-use Rattle.std.proofs.Common.{◌≡◌, None}
-use Rattle.std.specs.Prelude.{replicate}
+use Rattle.pr_commands.proofs.Common.{◌≡◌, None, replicate}
 use Rattle.pr_commands.proofs.asked.nothing_asked.Given as goal
 
 abbrev pub invariant-loop-nexus : goal.invariant-loop-nexus

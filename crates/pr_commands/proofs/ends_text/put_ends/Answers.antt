@@ -1,5 +1,4 @@
-use Rattle.pr_trace.specs.TraceText.{names_of}
-use Rattle.pr_output.proofs.lemmas.Written.Fronts.{front_first, puts_err, puts_last}
+use Rattle.pr_commands.proofs.Common.{names_of, front_first, puts_err, puts_last}
 use Rattle.pr_commands.specs.EndsText.{end_parts}
 use Rattle.pr_commands.proofs.ends_text.put_ends.Goals as goal
 

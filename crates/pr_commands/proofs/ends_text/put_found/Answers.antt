@@ -1,14 +1,4 @@
-use Rattle.std.proofs.Common.{◌≡◌, ℕ, List, ap, ◌∙◌, subst}
-use Rattle.std.specs.Prelude.{codes}
-use Rattle.std.specs.Io.KnownBytes.{Appends}
-use Rattle.pr_roles.specs.declared.parts.Parts.{Parts}
-use Rattle.pr_roles.specs.Scenarios.{scenario_of}
-use Rattle.pr_trace.specs.TraceText.{names_in, names_of}
-use Rattle.pr_trace.proofs.lemmas.TraceText.Lines.{names_of_scenario}
-use Rattle.pr_output.specs.Written.{FallsShort}
-use Rattle.pr_output.proofs.lemmas.Written.Fronts.{front_first, front_then, puts_err, puts_last}
-use Rattle.pr_audit.specs.declared.end.End.{End}
-use Rattle.pr_commands.specs.EndsText.{ends_line}
+use Rattle.pr_commands.proofs.Common.{◌≡◌, ℕ, List, ap, ◌∙◌, subst, codes, Appends, Parts, scenario_of, names_in, names_of, names_of_scenario, FallsShort, front_first, front_then, puts_err, puts_last, End, ends_line}
 use Rattle.pr_commands.proofs.ends_text.put_found.Goals as goal
 
 pub returns-in_err-put : goal.returns-in_err-put

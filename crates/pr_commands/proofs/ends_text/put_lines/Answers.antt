@@ -1,12 +1,6 @@
 -- One line more, and then all.
-use Rattle.std.proofs.Common.{◌≡◌, ℕ, List, get_or, ap, ◌∙◌, subst}
-use Rattle.std.specs.Io.KnownBytes.{Appends}
-use Rattle.pr_audit.specs.declared.end.End.{End}
-use Rattle.pr_trace.specs.TraceText.{names_of}
-use Rattle.pr_explore.specs.declared.endings.Together.{Together}
-use Rattle.pr_output.specs.Written.{FallsShort}
-use Rattle.pr_output.proofs.lemmas.Written.Fronts.{flat_map_end, flat_map_from, puts_err, wrote_all, wrote_front, wrote_more}
-use Rattle.pr_commands.specs.EndsText.{ends_line}
+use Rattle.pr_commands.proofs.Common.{◌≡◌, ℕ, List, ap, ◌∙◌, subst, Appends, End, names_of, Together, FallsShort, flat_map_end, flat_map_from, puts_err, wrote_all, wrote_front, wrote_more, ends_line}
+use Rattle.std.proofs.Common.{get_or}
 use Rattle.pr_commands.proofs.ends_text.put_lines.Goals as goal
 
 pub returns-in_err-put_ends : goal.returns-in_err-put_ends

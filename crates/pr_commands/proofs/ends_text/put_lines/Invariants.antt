@@ -1,10 +1,5 @@
 -- the lines of those before this one
-use Rattle.std.proofs.Common.{drop}
-use Rattle.std.specs.List.{flat_map}
-use Rattle.pr_trace.specs.TraceText.{names_of}
-use Rattle.pr_explore.specs.declared.endings.Together.{Together}
-use Rattle.pr_output.specs.Written.{Wrote}
-use Rattle.pr_commands.specs.EndsText.{ends_line}
+use Rattle.pr_commands.proofs.Common.{drop, flat_map, names_of, Together, Wrote, ends_line}
 use Rattle.pr_commands.proofs.ends_text.put_lines.Given as goal
 
 abbrev pub invariant-loop-together : goal.invariant-loop-together

@@ -1,11 +1,6 @@
 -- One part more, and then all.
-use Rattle.std.proofs.Common.{◌≡◌, ℕ, List, Some, length, refl, sym, subst}
-use Rattle.std.specs.List.{slice_get}
-use Rattle.std.specs.Io.KnownBytes.{Appends}
+use Rattle.pr_commands.proofs.Common.{◌≡◌, ℕ, List, Some, length, refl, sym, subst, slice_get, Appends, name_of, names_of, FallsShort, puts_err}
 use Rattle.std.proofs.lemmas.Option.{slice_get_read}
-use Rattle.pr_trace.specs.TraceText.{name_of, names_of}
-use Rattle.pr_output.specs.Written.{FallsShort}
-use Rattle.pr_output.proofs.lemmas.Written.Fronts.{puts_err}
 use Rattle.pr_commands.specs.EndsText.{end_part}
 use Rattle.pr_commands.proofs.lemmas.Witnesses.Lines.{line_front, line_more, lines_over}
 use Rattle.pr_commands.proofs.ends_text.put_parts.Goals as goal

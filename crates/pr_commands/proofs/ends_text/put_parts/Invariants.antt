@@ -1,8 +1,5 @@
 -- the parts of those before this one
-use Rattle.std.proofs.Common.{drop, length}
-use Rattle.std.specs.List.{flat_map, range_with_len, slice_get}
-use Rattle.pr_trace.specs.TraceText.{name_of, names_of}
-use Rattle.pr_output.specs.Written.{Wrote}
+use Rattle.pr_commands.proofs.Common.{drop, length, flat_map, range_with_len, slice_get, name_of, names_of, Wrote}
 use Rattle.pr_commands.specs.EndsText.{end_part, end_parts}
 use Rattle.pr_commands.proofs.ends_text.put_parts.Given as goal
 

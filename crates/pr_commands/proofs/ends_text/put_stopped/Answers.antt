@@ -1,5 +1,4 @@
-use Rattle.std.specs.Prelude.{codes}
-use Rattle.pr_output.proofs.lemmas.Written.Fronts.{front_first, front_then, puts_err, puts_last}
+use Rattle.pr_commands.proofs.Common.{codes, front_first, front_then, puts_err, puts_last}
 use Rattle.pr_commands.proofs.ends_text.put_stopped.Goals as goal
 
 pub returns-in_err-put : goal.returns-in_err-put

@@ -1,10 +1,7 @@
 -- How much is taken of a trace.
-use Rattle.std.proofs.Common.{ℕ, ◌≤◌, List, [], Option, ap, subst, arith}
-use Rattle.std.specs.Prelude.{IfSome}
+use Rattle.pr_commands.proofs.Common.{ℕ, ◌≤◌, List, [], Option, ap, subst, arith, IfSome, Scenario, IsWrittenAs}
 use Rattle.std.specs.Io.KnownBytes.{Keeps}
 use Rattle.std.proofs.KnownBytes.{Consumes-nil, Consumes-kept}
-use Rattle.pr_roles.specs.Scenarios.{Scenario}
-use Rattle.pr_text.specs.Reading.{IsWrittenAs}
 use Rattle.pr_text.proofs.lemmas.ScenarioRoundTrip.Uniqueness.{written_once}
 use Rattle.pr_trace.specs.Versions.{most_items}
 use Rattle.pr_trace.specs.BytesTaken.{LosesUpTo, most_of_trace, most_of_any_trace}

@@ -1,14 +1,9 @@
 -- The verdict on a history that was audited, where the writer failed.
-use Rattle.std.proofs.Common.{◌≡◌, ℕ, Bool, List, Option, Some, None, Result, Ok, Err, refl, sym, subst}
-use Rattle.std.specs.Prelude.{IfSome, IsErrAnd}
+use Rattle.pr_commands.proofs.Common.{◌≡◌, ℕ, Bool, List, Option, Some, None, Result, Ok, Err, refl, sym, subst, IfSome, IsErrAnd, scenario_of, FallsShort, names_in, Fault}
 use Rattle.std.specs.Io.KnownBytes.{Keeps}
-use Rattle.pr_roles.specs.Scenarios.{scenario_of}
 use Rattle.pr_text.specs.declared.fault.ReadError.{ReadError}
-use Rattle.pr_output.specs.Written.{FallsShort}
-use Rattle.pr_trace.specs.TraceText.{names_in}
 use Rattle.pr_report.specs.Verdicts.{is_refusal, verdict_text}
 use Rattle.pr_commands.specs.declared.audits.Audited.{Audited}
-use Rattle.pr_commands.specs.declared.fault.Fault.{Fault}
 use Rattle.pr_commands.specs.declared.fault.Fault.TheVariants as fault
 use Rattle.pr_commands.specs.Audits.{EndsAudit, IsAuditOf}
 use Rattle.pr_commands.specs.inside.Audited.{IsOf}

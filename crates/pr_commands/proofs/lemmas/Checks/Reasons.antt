@@ -1,6 +1,6 @@
 -- Of reasons for a refusal.
-use Rattle.std.proofs.Common.{◌≢◌, refl}
-use Rattle.pr_roles.specs.Scenarios.{Scenario}
+use Rattle.pr_commands.proofs.Common.{refl, Scenario}
+use Rattle.std.proofs.Common.{◌≢◌}
 use Rattle.pr_roles.specs.declared.refusal.Refusal.{Refusal}
 use Rattle.pr_roles.specs.declared.refusal.Refusal.TheVariants.{NoArm, OutOfRole, OverBudget, Memory, NotSound}
 use Rattle.pr_verify.specs.Verdicts.{IsFirstReason, IsVerdict}

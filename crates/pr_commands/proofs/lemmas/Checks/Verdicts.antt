@@ -1,15 +1,9 @@
 -- The verdict on a text that was judged.
-use Rattle.std.proofs.Common.{◌≡◌, ℕ, Bool, List, Option, Some, None, Result, Ok, Err, refl, sym, subst}
-use Rattle.std.specs.Prelude.{IfSome, IsErrAnd, is_err}
-use Rattle.std.specs.Io.KnownBytes.{Appends}
-use Rattle.pr_roles.specs.Scenarios.{scenario_of}
-use Rattle.pr_text.specs.Reading.{IsWrittenAs}
-use Rattle.pr_output.specs.Written.{FallsShort}
+use Rattle.pr_commands.proofs.Common.{◌≡◌, ℕ, Bool, List, Option, Some, None, Result, Ok, Err, refl, sym, subst, IfSome, IsErrAnd, is_err, Appends, scenario_of, IsWrittenAs, FallsShort, Fault, Judgement}
 use Rattle.pr_report.specs.declared.verdict.Verdict.TheVariants.{Accepted, Refused}
-use Rattle.pr_commands.specs.declared.fault.Fault.{Fault}
 use Rattle.pr_commands.specs.declared.fault.Fault.TheVariants as fault
 use Rattle.pr_commands.specs.Checks.{EndsCheck, IsVerdictOf}
-use Rattle.pr_commands.specs.inside.Judgements.{Judgement, Stands, judgement_text, scenario_in}
+use Rattle.pr_commands.specs.inside.Judgements.{Stands, judgement_text, scenario_in}
 
 pub verdict_of : (text : List ℕ) (j : Judgement) (refused : Bool) → IsWrittenAs text (scenario_of (scenario_in j)) → Stands j → refused ≡ is_err j
     → IsVerdictOf text (judgement_text j) refused

@@ -1,14 +1,10 @@
 -- The ends that words ask for.
-use Rattle.std.proofs.Common.{◌≡◌, ℕ, ◌+◌, zero, suc, Bool, true, false, ◌&&◌, List, [], ◌∷◌, ◌++◌, add-one, Option, Some, None, option_map, if◌then◌else◌, refl, sym, ap, ◌∙◌}
-use Rattle.std.specs.Prelude.{option_and_then, replicate, slice_index_or, slice_set}
-use Rattle.std.specs.List.{slice_get}
-use Rattle.pr_roles.specs.Scenarios.{Scenario, task}
-use Rattle.pr_audit.specs.declared.end.End.{End}
-use Rattle.pr_trace.specs.TraceText.{names_in}
+use Rattle.pr_commands.proofs.Common.{◌≡◌, ℕ, ◌+◌, zero, suc, Bool, true, false, List, [], ◌∷◌, ◌++◌, Option, Some, None, refl, sym, ap, ◌∙◌, option_and_then, replicate, slice_index_or, slice_get, Scenario, task, End, names_in, has_script, ask_of, asks_from, exits_of}
+use Rattle.std.proofs.Common.{◌&&◌, add-one, option_map, if◌then◌else◌}
+use Rattle.std.specs.Prelude.{slice_set}
 use Rattle.pr_explore.specs.Exits.{Exit}
 use Rattle.pr_explore.specs.Together.{exit_in}
-use Rattle.pr_roles.specs.Tasks.{has_script}
-use Rattle.pr_commands.specs.Asked.{ask_of, asks_from, exits_of, is_free, with_ask}
+use Rattle.pr_commands.specs.Asked.{is_free, with_ask}
 
 -- one more end is asked for
 pub exits_set : (asked : List (Option End)) (i : ℕ) (e : End) → exits_of (slice_set asked i (Some e)) ≡ slice_set (exits_of asked) i (Some (exit_in (Some e)))

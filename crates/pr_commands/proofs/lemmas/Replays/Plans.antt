@@ -1,21 +1,17 @@
 -- What is planned is the trace of the text's scheduled run.
-use Rattle.std.specs.Prelude.{◌≡◌, ℕ, ◌≤◌, ◌==◌, ◌||◌, Bool, true, false, nat_lt, List, [], ◌∷◌, length, map, Option, Some, None, option_map, option_and_then, IfSome, Ok, Err}
-use Rattle.std.proofs.Common.{refl, sym, ap, ◌∙◌, subst, arith}
+use Rattle.pr_commands.proofs.Common.{map, option_map, option_and_then, IfSome, refl, sym, ap, ◌∙◌, subst, arith, Parts, scenario_of, IsWrittenAs, names_in, names_of, steps_of}
+use Rattle.std.specs.Prelude.{◌≡◌, ℕ, ◌≤◌, ◌==◌, ◌||◌, Bool, true, false, nat_lt, List, [], ◌∷◌, length, Option, Some, None, Ok, Err}
 use Rattle.std.proofs.lemmas.Bool.{false≢true}
 use Rattle.std.proofs.lemmas.List.{length-map}
 use Rattle.std.proofs.lemmas.Bool.Decides.{nat_tests}
 use Rattle.std.proofs.lemmas.Option.{none-some, same_Some}
 use Rattle.pr_roles.specs.declared.step.Step.{Step}
-use Rattle.pr_roles.specs.declared.parts.Parts.{Parts}
-use Rattle.pr_roles.specs.Scenarios.{scenario_of}
 use Rattle.pr_roles.proofs.lemmas.Fitting.DistinctLists.{names_of_parts, length_of_parts}
-use Rattle.pr_text.specs.Reading.{IsWrittenAs}
 use Rattle.pr_world.specs.declared.replaying.Replayed.{Replayed}
 use Rattle.pr_world.specs.Replays.{IsReplayed}
-use Rattle.pr_trace.specs.TraceText.{names_in, names_of}
 use Rattle.pr_commands.proofs.lemmas.Replays.Traces.{replays_are_traced}
 use Rattle.pr_commands.specs.declared.fault.Fault.TheVariants as fault
-use Rattle.pr_commands.specs.Steps.{step_in, steps_of, has_wrong_count}
+use Rattle.pr_commands.specs.Steps.{step_in, has_wrong_count}
 use Rattle.pr_commands.specs.Replays.{IsTraceOf, IsUsageFault}
 use Rattle.pr_commands.specs.inside.PlannedReplays.{planned_text, is_refused, IsPlanned}
 

@@ -1,8 +1,7 @@
 -- What a replay answers has the trace of its run.
-use Rattle.std.proofs.Common.{◌≡◌, List, [], ◌∷◌, map, Some, refl, ap, ◌∙◌}
-use Rattle.pr_audit.specs.declared.end.End.{End}
-use Rattle.pr_audit.specs.Ends.{ending_of}
-use Rattle.pr_trace.specs.TraceText.{names_in, trace_text}
+use Rattle.pr_commands.proofs.Common.{◌≡◌, List, [], ◌∷◌, Some, refl, ap, ◌∙◌, End, ending_of, names_in}
+use Rattle.std.proofs.Common.{map}
+use Rattle.pr_trace.specs.TraceText.{trace_text}
 use Rattle.pr_commands.specs.Replays.{ReplaysAreTraced}
 
 seen_again : (es : List End) → map (λ e. Some e) (map ending_of es) ≡ map (λ e. Some (ending_of e)) es

@@ -1,34 +1,27 @@
 -- A scenario that was run or refused, and what is written of it.
-use Rattle.std.proofs.Common.{◌≡◌, ℕ, ◌^◌, ◌<◌, ◌≤◌, Bool, true, List, [], ◌∷◌, zero, suc, Option, Some, None, Result, Ok, Err, refl, sym, ap, ◌∙◌, subst, arith}
-use Rattle.std.specs.Prelude.{IfSome, IsErrAnd, is_err, length, map, slice_index_or}
-use Rattle.std.specs.List.{list_all, range_with_len, slice_get}
+use Rattle.pr_commands.proofs.Common.{◌≡◌, ℕ, ◌<◌, ◌≤◌, Bool, true, List, [], ◌∷◌, zero, suc, Option, Some, None, Result, Ok, Err, refl, sym, ap, ◌∙◌, subst, arith, IfSome, IsErrAnd, is_err, map, slice_index_or, range_with_len, slice_get, Appends, Parts, Scenario, scenario_of, task, commands_by, IsWrittenAs, End, ending_of, name_of, names_in, names_of, FallsShort, Fault, Judgement}
+use Rattle.std.proofs.Common.{◌^◌}
+use Rattle.std.specs.Prelude.{length}
+use Rattle.std.specs.List.{list_all}
 use Rattle.std.specs.Option.{option_map_or}
-use Rattle.std.specs.Io.KnownBytes.{Appends}
 use Rattle.std.proofs.lemmas.Bool.{and_parts}
 use Rattle.pr_roles.specs.declared.parts.Nexus.{Nexus as NexusPart}
-use Rattle.pr_roles.specs.declared.parts.Parts.{Parts}
 use Rattle.pr_verify.specs.declared.verifying.Refused.{Refused}
-use Rattle.pr_roles.specs.Scenarios.{Nexus, Scenario, scenario_of, task}
+use Rattle.pr_roles.specs.Scenarios.{Nexus}
 use Rattle.pr_roles.specs.Safety.{IsSafe}
 use Rattle.pr_roles.specs.Fitting.{Fits, is_nexus}
-use Rattle.pr_roles.specs.Worlds.{commands_by}
-use Rattle.pr_text.specs.Reading.{IsWrittenAs}
 use Rattle.pr_roles.specs.declared.item.Item.{Item}
-use Rattle.pr_audit.specs.declared.end.End.{End}
-use Rattle.pr_audit.specs.Ends.{ending_of}
 use Rattle.pr_world.specs.Rooms.{room_by}
 use Rattle.pr_roles.proofs.lemmas.Starts.AllowedStarts.{each_nexus}
 use Rattle.pr_world.proofs.lemmas.Workings.Room.{sent_within}
 use Rattle.pr_world.proofs.lemmas.Workings.Reserves.{room_of_nexus}
 use Rattle.pr_shared.specs.declared.outcome.Outcome.{Outcome}
 use Rattle.pr_shared.specs.Outcomes.{IsOutcome}
-use Rattle.pr_trace.specs.TraceText.{name_of, names_in, names_of, trace_text}
-use Rattle.pr_output.specs.Written.{FallsShort}
-use Rattle.pr_commands.specs.declared.fault.Fault.{Fault}
+use Rattle.pr_trace.specs.TraceText.{trace_text}
 use Rattle.pr_commands.specs.declared.fault.Fault.TheVariants as fault
 use Rattle.pr_commands.specs.Runs.{EndsRun, IsRunOf, counts_in, outcome_text}
 use Rattle.pr_commands.specs.inside.Performances.{Performed, IsPerformed, IsRunFault, Stands, performed_text, scenario_in}
-use Rattle.pr_commands.specs.inside.Judgements.{Judgement, Stands as Judged, scenario_in as judged_in}
+use Rattle.pr_commands.specs.inside.Judgements.{Stands as Judged, scenario_in as judged_in}
 use Rattle.pr_commands.specs.declared.runs.Ran.{Ran}
 
 -- ---- what is written

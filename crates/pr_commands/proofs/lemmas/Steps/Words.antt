@@ -1,16 +1,12 @@
 -- Words, and the steps that they are.
-use Rattle.std.specs.Prelude.{◌≡◌, ℕ, ◌≤◌, List, [], ◌∷◌, ◌++◌, length, Option, Some, None, option_map, option_and_then}
-use Rattle.std.proofs.Common.{refl, sym, ap, ◌∙◌, zero, suc, arith}
+use Rattle.pr_commands.proofs.Common.{option_map, option_and_then, refl, sym, ap, ◌∙◌, zero, suc, arith, All, IsThere, Parts, scenario_of, steps_of}
+use Rattle.std.specs.Prelude.{◌≡◌, ℕ, ◌≤◌, List, [], ◌∷◌, ◌++◌, length, Option, Some, None}
 use Rattle.std.proofs.lemmas.List.Elements.{All-append}
-use Rattle.std.specs.List.{All}
 use Rattle.pr_cdb.specs.declared.codes.TheConstants.{MOST_NEXUSES}
 use Rattle.pr_roles.specs.declared.step.Step.{Step}
-use Rattle.pr_world.specs.Replays.{IsThere}
-use Rattle.pr_roles.specs.declared.parts.Parts.{Parts}
-use Rattle.pr_roles.specs.Scenarios.{scenario_of}
 use Rattle.pr_roles.specs.Fitting.{Fits}
 use Rattle.pr_roles.proofs.lemmas.Starts.AllowedStarts.{few_parts}
-use Rattle.pr_commands.specs.Steps.{step_in, steps_of}
+use Rattle.pr_commands.specs.Steps.{step_in}
 
 -- what the first words are stands in front of what the others are
 abbrev pub onto : List Step → Option (List Step) → Option (List Step)

@@ -1,18 +1,12 @@
 -- The answer to a text whose scenario was judged for a host.
-use Rattle.std.proofs.Common.{◌≡◌, ℕ, Bool, List, Option, Some, None, Result, Ok, Err, refl, sym, ◌∙◌, subst}
-use Rattle.std.specs.Prelude.{IfSome, IsErrAnd, is_err}
-use Rattle.std.specs.Io.KnownBytes.{Appends}
-use Rattle.pr_roles.specs.Scenarios.{scenario_of}
-use Rattle.pr_text.specs.Reading.{IsWrittenAs}
-use Rattle.pr_output.specs.Written.{FallsShort}
+use Rattle.pr_commands.proofs.Common.{◌≡◌, ℕ, Bool, List, Option, Some, None, Result, Ok, Err, refl, sym, ◌∙◌, subst, IfSome, IsErrAnd, is_err, Appends, scenario_of, IsWrittenAs, FallsShort, Fault, Judgement}
 use Rattle.pr_report.specs.Verdicts.{is_refusal}
-use Rattle.pr_commands.specs.declared.fault.Fault.{Fault}
 use Rattle.pr_commands.specs.declared.fault.Fault.TheVariants as fault
 use Rattle.pr_commands.specs.declared.tables.JudgedHost.{JudgedHost}
 use Rattle.pr_commands.specs.Checks.{Holds}
 use Rattle.pr_commands.specs.Tables.{EndsTable, IsTableOf}
 use Rattle.pr_commands.specs.inside.JudgedHosts.{StandsFor, answered_text, scenario_in, verdict_in}
-use Rattle.pr_commands.specs.inside.Judgements.{Judgement, Stands, scenario_in as judged_in}
+use Rattle.pr_commands.specs.inside.Judgements.{Stands, scenario_in as judged_in}
 
 holds_of : (j : Judgement) → Stands j → Holds (verdict_in j) (scenario_of (judged_in j))
 holds_of (Ok verified) stands = stands

@@ -1,11 +1,7 @@
 -- How the lines of a witness go out, one for each nexus.
-use Rattle.std.proofs.Common.{◌≡◌, ℕ, ◌+◌, ◌<◌, ◌≤◌, Bool, List, ◌++◌, drop, length, Option, refl, ap, ◌∙◌, subst, zero-add, arith}
-use Rattle.std.specs.List.{flat_map, range_with_len}
-use Rattle.std.specs.Io.KnownBytes.{Appends}
+use Rattle.pr_commands.proofs.Common.{◌≡◌, ℕ, ◌+◌, ◌<◌, ◌≤◌, Bool, List, ◌++◌, drop, length, Option, refl, ap, ◌∙◌, subst, arith, flat_map, range_with_len, Appends, FallsShort, Wrote, flat_map_end, flat_map_from, wrote_all, wrote_front, wrote_more, pending_line}
+use Rattle.std.proofs.Common.{zero-add}
 use Rattle.std.proofs.lemmas.List.FromFn.{get_or-range_with_len, length-range_with_len}
-use Rattle.pr_output.specs.Written.{FallsShort, Wrote}
-use Rattle.pr_output.proofs.lemmas.Written.Fronts.{flat_map_end, flat_map_from, wrote_all, wrote_front, wrote_more}
-use Rattle.pr_commands.specs.WitnessText.{pending_line}
 
 module _ (f : ℕ → List ℕ) (n i : ℕ) (old mid new : Option (List ℕ)) where
   lines_from : i < n → flat_map f (drop i (range_with_len 0 n)) ≡ f i ++ flat_map f (drop (i + 1) (range_with_len 0 n))

@@ -1,13 +1,6 @@
 -- The answer to a text that was searched.
-use Rattle.std.proofs.Common.{◌≡◌, ℕ, Bool, List, Option, Some, None, Result, Ok, Err, refl, sym, subst}
-use Rattle.std.specs.Prelude.{IfSome, IsErrAnd}
-use Rattle.std.specs.Io.KnownBytes.{Appends}
-use Rattle.pr_roles.specs.Scenarios.{scenario_of}
-use Rattle.pr_text.specs.Reading.{IsWrittenAs}
-use Rattle.pr_trace.specs.TraceText.{names_in}
-use Rattle.pr_output.specs.Written.{FallsShort}
+use Rattle.pr_commands.proofs.Common.{◌≡◌, ℕ, Bool, List, Option, Some, None, Result, Ok, Err, refl, sym, subst, IfSome, IsErrAnd, Appends, scenario_of, IsWrittenAs, names_in, FallsShort, Fault}
 use Rattle.pr_commands.specs.declared.witnesses.Witnessed.{Witnessed}
-use Rattle.pr_commands.specs.declared.fault.Fault.{Fault}
 use Rattle.pr_commands.specs.declared.fault.Fault.TheVariants as fault
 use Rattle.pr_commands.specs.Witnesses.{EndsWitness, IsWitnessOf, answer_text, is_breach}
 use Rattle.pr_commands.specs.inside.Witnessed.{Stands, answer_in, scenario_in}

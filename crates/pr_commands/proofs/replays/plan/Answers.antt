@@ -1,11 +1,5 @@
 -- The scenario that was read, its steps, and its replay.
-use Rattle.std.proofs.Common.{◌≡◌, List, ℕ, length, Some, sym, ap, ◌∙◌, subst, arith}
-use Rattle.std.specs.Prelude.{map, option_map, IfSome}
-use Rattle.std.specs.List.{All}
-use Rattle.pr_roles.specs.Scenarios.{scenario_of}
-use Rattle.pr_world.specs.Replays.{IsThere}
-use Rattle.pr_trace.specs.TraceText.{names_in, names_of}
-use Rattle.pr_commands.specs.Steps.{steps_of}
+use Rattle.pr_commands.proofs.Common.{◌≡◌, List, ℕ, length, Some, sym, ap, ◌∙◌, subst, arith, map, option_map, IfSome, All, scenario_of, IsThere, names_in, names_of, steps_of}
 use Rattle.pr_commands.proofs.lemmas.Steps.Words.{few_nexuses}
 use Rattle.pr_commands.proofs.lemmas.Replays.Plans.{names_of_scenario, version_of_scenario, nexuses_in, named_length, planned, unnamed, few_steps}
 use Rattle.pr_commands.proofs.replays.plan.Goals as goal

@@ -1,7 +1,6 @@
-use Rattle.std.proofs.Common.{sym, ◌∙◌, ap, map, ◌++◌, ◌+◌, [], ◌∷◌, arith}
-use Rattle.std.specs.List.{range_with_len}
+use Rattle.pr_commands.proofs.Common.{sym, ◌∙◌, ap, ◌++◌, ◌+◌, [], ◌∷◌, arith, range_with_len, commands_by}
+use Rattle.std.proofs.Common.{map}
 use Rattle.std.proofs.lemmas.List.FromFn.{map-range_with_len_more}
-use Rattle.pr_roles.specs.Worlds.{commands_by}
 use Rattle.pr_commands.proofs.runs.counts_of.Goals as goal
 
 pub loop-host-preserved : goal.loop-host-preserved

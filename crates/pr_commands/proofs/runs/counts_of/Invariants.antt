@@ -1,8 +1,5 @@
-use Rattle.std.proofs.Common.{◌≡◌}
-use Rattle.std.specs.Prelude.{map}
-use Rattle.std.specs.List.{range_with_len}
+use Rattle.pr_commands.proofs.Common.{◌≡◌, map, range_with_len, commands_by}
 use Rattle.arrayvec.specs.ArrayVec.{array_vec_len}
-use Rattle.pr_roles.specs.Worlds.{commands_by}
 use Rattle.pr_commands.proofs.runs.counts_of.Given as goal
 
 -- how many of each before this one

@@ -1,7 +1,5 @@
-use Rattle.std.proofs.Common.{◌≡◌, ◌<◌, length, sym, ap, ◌∙◌, subst, arith}
-use Rattle.pr_roles.specs.Scenarios.{scenario_of}
+use Rattle.pr_commands.proofs.Common.{◌≡◌, ◌<◌, length, sym, ap, ◌∙◌, subst, arith, scenario_of, name_of, names_in, names_of}
 use Rattle.pr_shared.specs.RunAnswers.{IfSpawn}
-use Rattle.pr_trace.specs.TraceText.{name_of, names_in, names_of}
 use Rattle.pr_commands.specs.declared.fault.Fault.TheVariants as fault
 use Rattle.pr_commands.specs.inside.Performances.{IsFaultFor}
 use Rattle.pr_commands.proofs.lemmas.Replays.Plans.{names_of_scenario, nexuses_in}

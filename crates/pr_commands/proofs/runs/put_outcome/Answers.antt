@@ -1,9 +1,7 @@
 -- The history has no more entries than there are numbers for, and the counts are those of its text.
-use Rattle.std.proofs.Common.{◌^◌, ◌<◌, refl, sym, ◌∙◌, subst}
-use Rattle.pr_roles.specs.Scenarios.{scenario_of}
-use Rattle.pr_roles.specs.Worlds.{commands_by}
+use Rattle.pr_commands.proofs.Common.{◌<◌, refl, sym, ◌∙◌, subst, scenario_of, commands_by, Puts}
+use Rattle.std.proofs.Common.{◌^◌}
 use Rattle.pr_shared.proofs.lemmas.Guests.Nexuses.{number_of_nexuses}
-use Rattle.pr_output.specs.Written.{Puts}
 use Rattle.pr_commands.proofs.lemmas.Runs.Outcomes.{counts_at, few_sent, text_of_outcome}
 use Rattle.pr_commands.proofs.runs.put_outcome.Goals as goal
 

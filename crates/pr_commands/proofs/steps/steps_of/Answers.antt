@@ -1,11 +1,7 @@
 -- One word more.
-use Rattle.std.proofs.Common.{◌+◌, length, drop, sym, ap, ◌∙◌, subst, IfSome}
-use Rattle.std.specs.Prelude.{map}
-use Rattle.std.specs.List.{All}
+use Rattle.pr_commands.proofs.Common.{◌+◌, length, drop, sym, ap, ◌∙◌, subst, map, All, IsThere, names_of, steps_of}
+use Rattle.std.proofs.Common.{IfSome}
 use Rattle.std.proofs.lemmas.List.{drop_more}
-use Rattle.pr_world.specs.Replays.{IsThere}
-use Rattle.pr_trace.specs.TraceText.{names_of}
-use Rattle.pr_commands.specs.Steps.{steps_of}
 use Rattle.pr_commands.proofs.lemmas.Steps.Words.{onto, named_more, named_none, all_more}
 use Rattle.pr_commands.proofs.steps.steps_of.Goals as goal
 

@@ -1,10 +1,5 @@
 -- The words before this one are the steps so far, whose nexuses are there.
-use Rattle.std.proofs.Common.{◌≡◌, length, drop}
-use Rattle.std.specs.Prelude.{map}
-use Rattle.std.specs.List.{All}
-use Rattle.pr_world.specs.Replays.{IsThere}
-use Rattle.pr_trace.specs.TraceText.{names_of}
-use Rattle.pr_commands.specs.Steps.{steps_of}
+use Rattle.pr_commands.proofs.Common.{◌≡◌, length, drop, map, All, IsThere, names_of, steps_of}
 use Rattle.pr_commands.proofs.lemmas.Steps.Words.{onto}
 use Rattle.pr_commands.proofs.steps.steps_of.Given as goal
 

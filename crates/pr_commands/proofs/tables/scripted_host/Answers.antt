@@ -1,12 +1,8 @@
 -- The nexus with this name, if it has a script.
-use Rattle.std.proofs.Common.{◌≡◌, ℕ, List, Some, None, Option, Bool, length, true, false, if◌then◌else◌, sym, ap, ◌∙◌, arith}
-use Rattle.std.specs.Prelude.{option_and_then}
+use Rattle.pr_commands.proofs.Common.{◌≡◌, ℕ, List, Some, None, Option, Bool, length, true, false, sym, ap, ◌∙◌, arith, option_and_then, Parts, Scenario, scenario_of, task, names_in, names_of, has_script}
+use Rattle.std.proofs.Common.{if◌then◌else◌}
 use Rattle.pr_roles.specs.declared.parts.Nexus.{Nexus}
-use Rattle.pr_roles.specs.declared.parts.Parts.{Parts}
-use Rattle.pr_roles.specs.Scenarios.{Scenario, scenario_of, task}
 use Rattle.pr_trace.specs.TraceReadings.{number_of}
-use Rattle.pr_trace.specs.TraceText.{names_in, names_of}
-use Rattle.pr_roles.specs.Tasks.{has_script}
 use Rattle.pr_commands.specs.Tables.{if_scripted, scripted_host}
 use Rattle.pr_commands.proofs.lemmas.Replays.Plans.{names_of_scenario}
 use Rattle.pr_commands.proofs.lemmas.Steps.Words.{few_nexuses}

@@ -1,15 +1,6 @@
-use Rattle.std.proofs.Common.{◌≡◌, List, ℕ, ap, ◌∙◌, subst}
-use Rattle.std.specs.Prelude.{map}
+use Rattle.pr_commands.proofs.Common.{◌≡◌, List, ℕ, ap, ◌∙◌, subst, map, Parts, scenario_of, End, ending_of, names_in, names_of, FallsShort, Puts, Appends, front_first, puts_err, puts_last, names_of_scenario}
 use Rattle.pr_roles.specs.declared.item.Item.{Item}
-use Rattle.pr_roles.specs.declared.parts.Parts.{Parts}
-use Rattle.pr_roles.specs.Scenarios.{scenario_of}
-use Rattle.pr_audit.specs.declared.end.End.{End}
-use Rattle.pr_audit.specs.Ends.{ending_of}
-use Rattle.pr_trace.specs.TraceText.{names_in, names_of, trace_body}
-use Rattle.pr_output.specs.Written.{FallsShort, Puts}
-use Rattle.std.specs.Io.KnownBytes.{Appends}
-use Rattle.pr_output.proofs.lemmas.Written.Fronts.{front_first, puts_err, puts_last}
-use Rattle.pr_trace.proofs.lemmas.TraceText.Lines.{names_of_scenario}
+use Rattle.pr_trace.specs.TraceText.{trace_body}
 use Rattle.pr_commands.specs.WitnessText.{run_head}
 use Rattle.pr_commands.proofs.witness_text.put_certified.Goals as goal
 

@@ -1,8 +1,7 @@
-use Rattle.std.proofs.Common.{List, ℕ}
+use Rattle.pr_commands.proofs.Common.{List, ℕ, flat_map_end, flat_map_from, puts_err, wrote_all, wrote_front, wrote_more}
 use Rattle.std.specs.FinSet as set
 use Rattle.pr_attention.specs.declared.attention.Attention.{Attention}
 use Rattle.pr_attention.specs.Attentions.{Codes, code_of, each_attention}
-use Rattle.pr_output.proofs.lemmas.Written.Fronts.{flat_map_end, flat_map_from, puts_err, wrote_all, wrote_front, wrote_more}
 use Rattle.pr_commands.specs.WitnessText.{code_word}
 use Rattle.pr_commands.proofs.witness_text.put_codes.Goals as goal
 

@@ -1,8 +1,6 @@
-use Rattle.std.proofs.Common.{drop}
+use Rattle.pr_commands.proofs.Common.{drop, flat_map, Wrote}
 use Rattle.std.specs.FinSet as set
-use Rattle.std.specs.List.{flat_map}
 use Rattle.pr_attention.specs.Attentions.{code_of}
-use Rattle.pr_output.specs.Written.{Wrote}
 use Rattle.pr_commands.specs.WitnessText.{code_word, code_words}
 use Rattle.pr_commands.proofs.witness_text.put_codes.Given as goal
 

@@ -1,12 +1,7 @@
-use Rattle.std.proofs.Common.{◌≡◌, ℕ, Option, [], ◌∷◌, List, ap, ◌∙◌, subst}
-use Rattle.std.specs.Prelude.{codes}
-use Rattle.std.specs.Io.KnownBytes.{Appends}
+use Rattle.pr_commands.proofs.Common.{◌≡◌, ℕ, Option, [], ◌∷◌, List, ap, ◌∙◌, subst, codes, Appends, State, names_of, FallsShort, Puts, front_first, front_then, puts_err, puts_last}
 use Rattle.pr_registry.specs.declared.held.Held.{Held}
-use Rattle.pr_registry.specs.Registrations.{State}
 use Rattle.pr_output.specs.PrintedLines.{line}
-use Rattle.pr_trace.specs.TraceText.{held_word, names_of}
-use Rattle.pr_output.specs.Written.{FallsShort, Puts}
-use Rattle.pr_output.proofs.lemmas.Written.Fronts.{front_first, front_then, puts_err, puts_last}
+use Rattle.pr_trace.specs.TraceText.{held_word}
 use Rattle.pr_commands.specs.WitnessText.{generation_line, pending_lines, start_lines}
 use Rattle.pr_commands.proofs.witness_text.put_head.Goals as goal
 

@@ -1,12 +1,6 @@
-use Rattle.std.proofs.Common.{◌≡◌, ℕ, List, ap, ◌∙◌, subst, arith}
+use Rattle.pr_commands.proofs.Common.{◌≡◌, ℕ, List, ap, ◌∙◌, subst, arith, Appends, State, name_of, names_of, FallsShort, puts_err, pending_line}
 use Rattle.std.specs.FinSet as set
-use Rattle.std.specs.Io.KnownBytes.{Appends}
-use Rattle.pr_registry.specs.Registrations.{State}
 use Rattle.pr_unit.specs.UnitStates.{is_pending}
-use Rattle.pr_trace.specs.TraceText.{name_of, names_of}
-use Rattle.pr_output.specs.Written.{FallsShort}
-use Rattle.pr_output.proofs.lemmas.Written.Fronts.{puts_err}
-use Rattle.pr_commands.specs.WitnessText.{pending_line}
 use Rattle.pr_commands.proofs.lemmas.Witnesses.Lines.{line_front, line_more, lines_over, pending_same}
 use Rattle.pr_commands.proofs.witness_text.put_pendings.Goals as goal
 

@@ -1,9 +1,6 @@
-use Rattle.std.proofs.Common.{drop}
-use Rattle.std.specs.List.{flat_map, range_with_len}
+use Rattle.pr_commands.proofs.Common.{drop, flat_map, range_with_len, name_of, names_of, Wrote, pending_line}
 use Rattle.pr_unit.specs.UnitStates.{is_pending}
-use Rattle.pr_trace.specs.TraceText.{name_of, names_of}
-use Rattle.pr_output.specs.Written.{Wrote}
-use Rattle.pr_commands.specs.WitnessText.{pending_line, pending_lines}
+use Rattle.pr_commands.specs.WitnessText.{pending_lines}
 use Rattle.pr_commands.proofs.witness_text.put_pendings.Given as goal
 
 -- the lines of those before this one

@@ -1,6 +1,5 @@
-use Rattle.std.specs.Prelude.{codes}
+use Rattle.pr_commands.proofs.Common.{codes, front_first, front_then, puts_err, puts_last}
 use Rattle.std.specs.FinSet as set
-use Rattle.pr_output.proofs.lemmas.Written.Fronts.{front_first, front_then, puts_err, puts_last}
 use Rattle.pr_commands.specs.WitnessText.{code_words}
 use Rattle.pr_commands.proofs.witness_text.put_some_pending.Goals as goal
 

@@ -1,11 +1,6 @@
-use Rattle.std.proofs.Common.{◌≡◌, ℕ, List, [], ◌∷◌, Option, ap, ◌∙◌, subst, arith}
-use Rattle.std.specs.Prelude.{codes}
-use Rattle.std.specs.Io.KnownBytes.{Appends}
-use Rattle.pr_registry.specs.Registrations.{State, key_of}
+use Rattle.pr_commands.proofs.Common.{◌≡◌, ℕ, List, [], ◌∷◌, Option, ap, ◌∙◌, subst, arith, codes, Appends, State, name_of, names_of, FallsShort, puts_err}
+use Rattle.pr_registry.specs.Registrations.{key_of}
 use Rattle.pr_output.specs.PrintedLines.{line}
-use Rattle.pr_trace.specs.TraceText.{name_of, names_of}
-use Rattle.pr_output.specs.Written.{FallsShort}
-use Rattle.pr_output.proofs.lemmas.Written.Fronts.{puts_err}
 use Rattle.pr_commands.specs.WitnessText.{start_line, start_word}
 use Rattle.pr_commands.proofs.lemmas.Witnesses.Lines.{line_front, line_more, lines_over}
 use Rattle.pr_commands.proofs.witness_text.put_starts.Goals as goal

@@ -1,7 +1,4 @@
-use Rattle.std.proofs.Common.{drop}
-use Rattle.std.specs.List.{flat_map, range_with_len}
-use Rattle.pr_trace.specs.TraceText.{names_of}
-use Rattle.pr_output.specs.Written.{Wrote}
+use Rattle.pr_commands.proofs.Common.{drop, flat_map, range_with_len, names_of, Wrote}
 use Rattle.pr_commands.specs.WitnessText.{start_line, start_lines}
 use Rattle.pr_commands.proofs.witness_text.put_starts.Given as goal
 

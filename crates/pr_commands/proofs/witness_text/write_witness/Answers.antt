@@ -1,12 +1,4 @@
-use Rattle.std.proofs.Common.{◌≡◌, List, ℕ, ap, ◌∙◌, subst}
-use Rattle.std.specs.Prelude.{codes}
-use Rattle.pr_roles.specs.declared.parts.Parts.{Parts}
-use Rattle.pr_roles.specs.Scenarios.{scenario_of}
-use Rattle.pr_trace.specs.TraceText.{names_in, names_of}
-use Rattle.pr_output.specs.Written.{FallsShort}
-use Rattle.std.specs.Io.KnownBytes.{Appends}
-use Rattle.pr_output.proofs.lemmas.Written.Fronts.{front_first, front_then, puts_err, puts_last}
-use Rattle.pr_trace.proofs.lemmas.TraceText.Lines.{names_of_scenario}
+use Rattle.pr_commands.proofs.Common.{◌≡◌, List, ℕ, ap, ◌∙◌, subst, codes, Parts, scenario_of, names_in, names_of, FallsShort, Appends, front_first, front_then, puts_err, puts_last, names_of_scenario}
 use Rattle.pr_commands.specs.WitnessText.{broken_line}
 use Rattle.pr_commands.proofs.witness_text.write_witness.Goals as goal
 

@@ -1,10 +1,6 @@
 -- How many rows a statement has, by its kind, and one statement or arm more.
-use Rattle.std.proofs.Common.{◌+◌, min, ap, ◌∙◌, arith}
-use Rattle.pr_script.specs.Trees.{statement_of}
-use Rattle.pr_script.specs.inside.ArmLists.{arms_in}
-use Rattle.pr_script.proofs.lemmas.Trees.Equations.{tree_send, tree_repeat}
-use Rattle.pr_table.specs.declared.counts.TheConstants.{MOST_ROWS}
-use Rattle.pr_table.specs.Rows.{row_count, row_count_of_arms}
+use Rattle.pr_table.proofs.Common.{◌+◌, ap, ◌∙◌, arith, statement_of, arms_in, tree_send, tree_repeat, MOST_ROWS, row_count, row_count_of_arms}
+use Rattle.std.proofs.Common.{min}
 use Rattle.pr_table.proofs.lemmas.Rows.Counts.{rows_taken, arm_rows_taken}
 use Rattle.pr_table.proofs.counts.+count.Goals as goal
 

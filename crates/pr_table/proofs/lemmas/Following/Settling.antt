@@ -1,14 +1,15 @@
 -- Where one stands in a table, beside what its script has still to do.
-use Rattle.std.proofs.Common.{◌≡◌, ℕ, zero, suc, ◌+◌, ◌<◌, ◌≤◌, max, List, [], ◌∷◌, ◌++◌, length, drop, if◌then◌else◌, Bool, true, false, Some, None, Option, option_map, codes, sym, refl, ap, ◌∙◌, subst, inl, inr, arith, append_assoc, add-one, length-append}
+use Rattle.pr_table.proofs.Common.{◌≡◌, ℕ, ◌+◌, ◌<◌, ◌≤◌, List, [], ◌∷◌, ◌++◌, length, drop, true, sym, refl, ap, ◌∙◌, subst, arith, Stmts, Arms, sends, repeats, breaks, stops, none, more, no_arm, arm, again_row, row_count, row_count_of_all, first_row, arm_rows, rows_of, rows_of_all, rows_of_arms, table_rows}
+use Rattle.std.proofs.Common.{zero, suc, max, if◌then◌else◌, Bool, false, Some, None, Option, option_map, codes, inl, inr, append_assoc, add-one, length-append}
 use Rattle.std.specs.Prelude.{◌⊎◌, option_and_then}
 use Rattle.std.specs.List.{slice_get}
 use Rattle.pr_cdb.specs.declared.reply.Reply.{Reply}
 use Rattle.pr_script.specs.declared.script.Test.{Test}
-use Rattle.pr_script.specs.Scripts.{Stmts, Arms, sends, repeats, breaks, stops, none, more, no_arm, arm, statement, mark, Configuration, before, turn, past_mark, becomes, work, Standing, standing_of_items}
+use Rattle.pr_script.specs.Scripts.{statement, mark, Configuration, before, turn, past_mark, becomes, work, Standing, standing_of_items}
 unfoldable use Rattle.pr_script.specs.Scripts.{settled_form}
 use Rattle.pr_script.specs.Takes.{matches, first_match, take}
 use Rattle.pr_script.proofs.lemmas.Next.Settlement.{settled-becomes, settled-rest, work-turn, work-past_mark}
-use Rattle.pr_table.specs.Rows.{TableRow, repeat_row, again_row, stop_row, row_count, row_count_of_all, first_row, arm_rows, rows_of, rows_of_all, rows_of_arms, table_rows, row_at}
+use Rattle.pr_table.specs.Rows.{TableRow, repeat_row, stop_row, row_at}
 use Rattle.pr_table.proofs.lemmas.Rows.Lengths.{length-rows_of, length-rows_of_all}
 use Rattle.pr_table.specs.Following.{Whereabouts, turn_to, past_of, again_at, led_by, goes_on, goes_on_often, first_arm, row_after, takes_arm, followed, standing_at_row, standing_at}
 use Rattle.pr_table.specs.Laws.{TablesFollowScripts, after_replies}

@@ -1,21 +1,15 @@
 -- How many rows a script has.
-use Rattle.std.proofs.Common.{◌≡◌, ℕ, ◌+◌, ◌*◌, ◌<◌, ◌≤◌, true, ◌&&◌, List, [], ◌∷◌, ◌++◌, length, get_or, take, ap, ◌∙◌, arith, nat_le, leb-true}
+use Rattle.pr_table.proofs.Common.{◌≡◌, ℕ, ◌+◌, ◌<◌, ◌≤◌, true, List, [], ◌∷◌, ◌++◌, length, ap, ◌∙◌, arith, Arm, Statement, Stmts, Arms, sends, repeats, breaks, stops, none, more, no_arm, arm, script_of, statement_of, statements_in, arms_in, tree_repeat, tree_send, MOST_ROWS, row_count, row_count_of_all, row_count_of_arms}
+use Rattle.std.proofs.Common.{◌*◌, ◌&&◌, get_or, take, nat_le, leb-true}
 use Rattle.std.proofs.lemmas.Bool.{and_parts}
 use Rattle.std.proofs.Common.{Vec, Global}
 use Rattle.pr_cdb.specs.declared.command.Command.{Command}
 use Rattle.pr_script.specs.declared.script.Script.{Script}
 use Rattle.pr_script.specs.declared.script.Statement.TheVariants.{Repeat, Send}
 use Rattle.pr_script.specs.declared.limits.TheConstants.{MOST_STATEMENTS}
-use Rattle.pr_script.specs.declared.script.Arm.{Arm}
-use Rattle.pr_script.specs.declared.script.Statement.{Statement}
 use Rattle.pr_script.specs.Grammar.{count_of, count_of_all, count_in_arms, lines_of_all, rise_above, script_fits, statements_fit}
-use Rattle.pr_script.specs.Scripts.{Stmt, Stmts, Arms, sends, repeats, breaks, stops, none, more, no_arm, arm}
-use Rattle.pr_script.specs.Trees.{script_of, statement_of, statements_in}
-use Rattle.pr_script.specs.inside.ArmLists.{arms_in}
+use Rattle.pr_script.specs.Scripts.{Stmt}
 use Rattle.pr_script.proofs.lemmas.Trees.ListTails.{taken}
-use Rattle.pr_script.proofs.lemmas.Trees.Equations.{tree_repeat, tree_send}
-use Rattle.pr_table.specs.declared.counts.TheConstants.{MOST_ROWS}
-use Rattle.pr_table.specs.Rows.{row_count, row_count_of_all, row_count_of_arms}
 
 -- ---- one more
 

@@ -1,7 +1,7 @@
 -- As many rows as are counted.
-use Rattle.std.proofs.Common.{◌≡◌, ℕ, ◌+◌, [], ◌∷◌, length, refl, arith, length-append}
-use Rattle.pr_script.specs.Scripts.{Stmt, Stmts, Arms, sends, repeats, breaks, stops, none, more, no_arm, arm}
-use Rattle.pr_table.specs.Rows.{again_row, row_count, row_count_of_all, row_count_of_arms, first_row, rows_of, rows_of_all, rows_of_arms}
+use Rattle.pr_table.proofs.Common.{◌≡◌, ℕ, ◌+◌, [], ◌∷◌, length, refl, arith, Stmts, Arms, sends, repeats, breaks, stops, none, more, no_arm, arm, again_row, row_count, row_count_of_all, row_count_of_arms, first_row, rows_of, rows_of_all, rows_of_arms}
+use Rattle.std.proofs.Common.{length-append}
+use Rattle.pr_script.specs.Scripts.{Stmt}
 
 mutual
   pub length-rows_of : (at next past : ℕ) (s : Stmt) → length (rows_of at next past s) ≡ row_count s

@@ -1,11 +1,10 @@
 -- The table of a host that has a script.
-use Rattle.std.proofs.Common.{◌≡◌, ℕ, zero, suc, List, [], ◌∷◌, map, Some, None, ap, ◌∙◌}
+use Rattle.pr_table.proofs.Common.{◌≡◌, ℕ, List, [], ◌∷◌, ap, ◌∙◌, Stmts, table_rows}
+use Rattle.std.proofs.Common.{zero, suc, map, Some, None}
 use Rattle.std.specs.Prelude.{slice_index_or}
 use Rattle.std.specs.List.{slice_get}
-use Rattle.pr_script.specs.Scripts.{Stmts}
 use Rattle.pr_roles.specs.Scenarios.{Nexus, Scenario, Scripted, nexus, task}
 use Rattle.pr_trace.specs.TraceText.{name_of, names_in}
-use Rattle.pr_table.specs.Rows.{table_rows}
 use Rattle.pr_table.specs.TableText.{host_table_text, table_text, task_table_text}
 
 named : (ns : List Nexus) (h : ℕ) (m : Nexus) → slice_get ns h ≡ Some m → slice_index_or (map (λ n. n.name) ns) h [] ≡ m.name

@@ -1,14 +1,8 @@
 -- The lines of rows, one statement or arm after another.
-use Rattle.std.proofs.Common.{◌≡◌, ℕ, ◌+◌, ◌<◌, ◌≤◌, List, [], ◌∷◌, ◌++◌, length, get_or, drop, sym, ap, ◌∙◌, arith, append_assoc, drop_of_length-le, ◌-◌}
-use Rattle.std.specs.List.{flat_map}
+use Rattle.pr_table.proofs.Common.{◌≡◌, ℕ, ◌+◌, ◌<◌, ◌≤◌, List, [], ◌∷◌, ◌++◌, length, drop, sym, ap, ◌∙◌, arith, flat_map, Arm, Statement, Stmts, more, arm, script_of, statement_of, statements_in, arms_in, row_count, row_count_of_all, row_count_of_arms, first_row, arm_rows, rows_of, rows_of_all, rows_of_arms, arm_line, row_text, rows_text}
+use Rattle.std.proofs.Common.{get_or, append_assoc, drop_of_length-le, ◌-◌}
 use Rattle.std.proofs.lemmas.List.{drop_more}
-use Rattle.pr_script.specs.declared.script.Arm.{Arm}
-use Rattle.pr_script.specs.declared.script.Statement.{Statement}
-use Rattle.pr_script.specs.Scripts.{Stmts, more, arm}
-use Rattle.pr_script.specs.Trees.{script_of, statement_of, statements_in}
-use Rattle.pr_script.specs.inside.ArmLists.{arms_in}
-use Rattle.pr_table.specs.Rows.{TableRow, row_count, row_count_of_all, row_count_of_arms, first_row, arm_rows, rows_of, rows_of_all, rows_of_arms}
-use Rattle.pr_table.specs.TableText.{arm_line, row_text, rows_text}
+use Rattle.pr_table.specs.Rows.{TableRow}
 use Rattle.pr_table.proofs.lemmas.Rows.Lengths.{length-rows_of, length-rows_of_all}
 
 pub rows_text-append : (at : ℕ) (xs ys : List TableRow) → rows_text at (xs ++ ys) ≡ rows_text at xs ++ rows_text (at + length xs) ys

@@ -1,17 +1,8 @@
 -- One statement or arm more, and a row of each kind.
-use Rattle.std.proofs.Common.{◌≡◌, ℕ, ◌+◌, List, [], ◌∷◌, drop, sym, ap, ◌∙◌, subst, arith}
-use Rattle.std.specs.Io.KnownBytes.{Appends}
+use Rattle.pr_table.proofs.Common.{◌≡◌, ℕ, ◌+◌, List, [], ◌∷◌, drop, sym, ap, ◌∙◌, subst, arith, Appends, Arm, Statement, script_of, statement_of, statements_in, arms_in, tree_repeat, tree_send, FallsShort, Puts, Wrote, front_first, puts_err, puts_last, puts_as, again_row, arm_rows, first_row, row_count, row_count_of_all, row_count_of_arms, rows_of, rows_of_all, rows_of_arms, row_text, rows_text}
 use Rattle.std.proofs.lemmas.List.{take_rest}
-use Rattle.pr_script.specs.declared.script.Arm.{Arm}
-use Rattle.pr_script.specs.declared.script.Statement.{Statement}
-use Rattle.pr_script.specs.Trees.{script_of, statement_of, statements_in}
-use Rattle.pr_script.specs.inside.ArmLists.{arms_in}
-use Rattle.pr_script.proofs.lemmas.Trees.Equations.{tree_repeat, tree_send}
-use Rattle.pr_output.specs.Written.{FallsShort, Puts, Wrote}
-use Rattle.pr_output.proofs.lemmas.Written.Fronts.{front_first, puts_err, puts_last, wrote_front, wrote_more}
-use Rattle.pr_report.proofs.lemmas.WordsWritten.Possibilities.{puts_as}
-use Rattle.pr_table.specs.Rows.{again_row, arm_rows, first_row, row_count, row_count_of_all, row_count_of_arms, rows_of, rows_of_all, rows_of_arms, send_row}
-use Rattle.pr_table.specs.TableText.{row_text, rows_text}
+use Rattle.pr_output.proofs.lemmas.Written.Fronts.{wrote_front, wrote_more}
+use Rattle.pr_table.specs.Rows.{send_row}
 use Rattle.pr_table.proofs.lemmas.Rows.Counts.{rows_of_repeat, rows_of_send}
 use Rattle.pr_table.proofs.lemmas.TableText.Lines.{arm_rows_from, bodies_from, rows_from, rows_then, text_from}
 use Rattle.pr_table.proofs.writing.+rows.Goals as goal

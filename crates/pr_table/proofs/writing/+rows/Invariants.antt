@@ -1,11 +1,7 @@
 -- The lines of the rows from this statement on are left, or of those of the bodies from this arm on. Each call has fewer rows to write,
 -- or as many and less around them.
-use Rattle.std.proofs.Common.{◌≡◌, ◌≤◌, ◌+◌, ◌*◌, drop}
-use Rattle.pr_script.specs.Trees.{script_of, statement_of, statements_in}
-use Rattle.pr_script.specs.inside.ArmLists.{arms_in}
-use Rattle.pr_output.specs.Written.{Wrote}
-use Rattle.pr_table.specs.Rows.{row_count, row_count_of_all, row_count_of_arms, rows_of_all, rows_of_arms}
-use Rattle.pr_table.specs.TableText.{rows_text}
+use Rattle.pr_table.proofs.Common.{◌≡◌, ◌≤◌, ◌+◌, drop, script_of, statement_of, statements_in, arms_in, Wrote, row_count, row_count_of_all, row_count_of_arms, rows_of_all, rows_of_arms, rows_text}
+use Rattle.std.proofs.Common.{◌*◌}
 use Rattle.pr_table.proofs.writing.+rows.Given as goal
 
 abbrev pub decreases-put_statements : goal.decreases-put_statements

@@ -1,8 +1,6 @@
 -- where there is a statement
-use Rattle.std.proofs.Common.{◌≡◌, ℕ, ◌==◌, true, false, List, [], ◌∷◌, length, refl, sym, ◌∙◌}
-use Rattle.pr_script.specs.declared.script.Statement.{Statement}
-use Rattle.pr_script.specs.Trees.{statements_in}
-use Rattle.pr_table.specs.Rows.{first_row}
+use Rattle.pr_table.proofs.Common.{◌≡◌, ℕ, true, List, [], ◌∷◌, length, refl, sym, ◌∙◌, Statement, statements_in, first_row}
+use Rattle.std.proofs.Common.{◌==◌, false}
 use Rattle.pr_table.proofs.writing.first_row.Goals as goal
 
 begins : (at next : ℕ) (xs : List Statement) → (length xs == 0) ≡ false → at ≡ first_row at next (statements_in xs)

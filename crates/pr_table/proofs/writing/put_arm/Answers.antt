@@ -1,11 +1,11 @@
 -- The space, what the arm asks, the row, and the end of the line.
-use Rattle.std.proofs.Common.{◌≡◌, [], ◌∷◌, ◌++◌, sym, ap, ◌∙◌}
+use Rattle.pr_table.proofs.Common.{◌≡◌, [], ◌∷◌, ◌++◌, sym, ap, ◌∙◌, front_first, puts_err, puts_last, puts_as}
 use Rattle.std.specs.Prelude.{codes, decimal}
 use Rattle.pr_output.specs.Printed.{printed_word}
 use Rattle.pr_output.specs.PrintedLines.{line}
-use Rattle.pr_output.proofs.lemmas.Written.Fronts.{front_first, front_then, puts_err, puts_last}
+use Rattle.pr_output.proofs.lemmas.Written.Fronts.{front_then}
 use Rattle.pr_report.specs.ScenarioWords.{test_words}
-use Rattle.pr_report.proofs.lemmas.WordsWritten.Possibilities.{line_pieces, puts_as}
+use Rattle.pr_report.proofs.lemmas.WordsWritten.Possibilities.{line_pieces}
 use Rattle.pr_table.proofs.writing.put_arm.Goals as goal
 
 pub returns-in_err-put : goal.returns-in_err-put

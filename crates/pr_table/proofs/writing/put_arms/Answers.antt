@@ -1,14 +1,6 @@
 -- One arm more.
-use Rattle.std.proofs.Common.{◌≡◌, ℕ, ◌+◌, List, drop, ap, ◌∙◌, subst, arith}
-use Rattle.std.specs.Io.KnownBytes.{Appends}
-use Rattle.std.specs.List.{flat_map}
-use Rattle.pr_script.specs.declared.script.Statement.{Statement}
-use Rattle.pr_script.specs.Trees.{script_of, statements_in}
-use Rattle.pr_script.specs.inside.ArmLists.{arms_in}
-use Rattle.pr_output.specs.Written.{FallsShort, Wrote}
-use Rattle.pr_output.proofs.lemmas.Written.Fronts.{puts_err, wrote_front, wrote_more}
-use Rattle.pr_table.specs.Rows.{arm_rows, first_row, row_count_of_all}
-use Rattle.pr_table.specs.TableText.{arm_line}
+use Rattle.pr_table.proofs.Common.{◌≡◌, ℕ, ◌+◌, List, drop, ap, ◌∙◌, subst, arith, Appends, flat_map, Statement, script_of, statements_in, arms_in, FallsShort, Wrote, puts_err, arm_rows, first_row, row_count_of_all, arm_line}
+use Rattle.pr_output.proofs.lemmas.Written.Fronts.{wrote_front, wrote_more}
 use Rattle.pr_table.proofs.lemmas.TableText.Lines.{arm_rows_from, lines_from}
 use Rattle.pr_table.proofs.writing.put_arms.Goals as goal
 

@@ -1,10 +1,5 @@
 -- The lines from this arm on are left.
-use Rattle.std.proofs.Common.{◌≡◌, ◌+◌, drop}
-use Rattle.std.specs.List.{flat_map}
-use Rattle.pr_script.specs.inside.ArmLists.{arms_in}
-use Rattle.pr_output.specs.Written.{Wrote}
-use Rattle.pr_table.specs.Rows.{arm_rows, row_count_of_arms}
-use Rattle.pr_table.specs.TableText.{arm_line}
+use Rattle.pr_table.proofs.Common.{◌≡◌, ◌+◌, drop, flat_map, arms_in, Wrote, arm_rows, row_count_of_arms, arm_line}
 use Rattle.pr_table.proofs.writing.put_arms.Given as goal
 
 abbrev pub invariant-loop-arm : goal.invariant-loop-arm

@@ -1,14 +1,7 @@
 -- The rows of its statements, and the end.
-use Rattle.std.proofs.Common.{◌≡◌, ℕ, ◌+◌, List, [], ◌∷◌, subst, arith}
+use Rattle.pr_table.proofs.Common.{◌≡◌, ℕ, ◌+◌, List, [], ◌∷◌, subst, arith, Appends, Statement, script_of, statements_in, FallsShort, Puts, front_first, puts_err, puts_last, puts_as, row_count_of_all, rows_of_all, rows_text}
 use Rattle.std.specs.Prelude.{codes}
-use Rattle.std.specs.Io.KnownBytes.{Appends}
-use Rattle.pr_script.specs.declared.script.Statement.{Statement}
-use Rattle.pr_script.specs.Trees.{script_of, statements_in}
-use Rattle.pr_output.specs.Written.{FallsShort, Puts}
-use Rattle.pr_output.proofs.lemmas.Written.Fronts.{front_first, puts_err, puts_last}
-use Rattle.pr_report.proofs.lemmas.WordsWritten.Possibilities.{puts_as}
-use Rattle.pr_table.specs.Rows.{row_count_of_all, rows_of_all, stop_row}
-use Rattle.pr_table.specs.TableText.{rows_text}
+use Rattle.pr_table.specs.Rows.{stop_row}
 use Rattle.pr_table.proofs.lemmas.TableText.Lines.{rows_then}
 use Rattle.pr_table.proofs.writing.put_script.Goals as goal
 

@@ -1,6 +1,5 @@
 -- The line of the send, and those of its arms.
-use Rattle.pr_output.proofs.lemmas.Written.Fronts.{front_first, puts_err, puts_last}
-use Rattle.pr_table.specs.TableText.{row_text}
+use Rattle.pr_table.proofs.Common.{front_first, puts_err, puts_last, row_text}
 use Rattle.pr_table.proofs.writing.put_send.Goals as goal
 
 pub returns-in_err-put_send_line : goal.returns-in_err-put_send_line

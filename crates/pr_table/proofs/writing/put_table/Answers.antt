@@ -1,5 +1,6 @@
 -- The version, the host, and the rows.
-use Rattle.pr_output.proofs.lemmas.Written.Fronts.{front_first, front_then, puts_err, puts_last}
+use Rattle.pr_table.proofs.Common.{front_first, puts_err, puts_last}
+use Rattle.pr_output.proofs.lemmas.Written.Fronts.{front_then}
 use Rattle.pr_table.proofs.writing.put_table.Goals as goal
 
 pub returns-in_err-put_version : goal.returns-in_err-put_version

@@ -1,13 +1,9 @@
 -- The script of a scenario fits, so that it has few rows; it is the host's, and the version is the scenario's.
-use Rattle.std.proofs.Common.{◌≡◌, ℕ, List, ap, ◌∙◌, subst, refl}
-use Rattle.pr_script.specs.Trees.{script_of}
+use Rattle.pr_table.proofs.Common.{◌≡◌, ℕ, List, ap, ◌∙◌, subst, refl, script_of, Puts, puts_as, table_rows}
 use Rattle.pr_roles.specs.declared.parts.Parts.{Parts}
 use Rattle.pr_roles.specs.Scenarios.{nexus_of, scenario_of}
-use Rattle.pr_output.specs.Written.{Puts}
 use Rattle.pr_roles.proofs.lemmas.Scenarios.Nexuses.{scripted_fits, scripted_task}
 use Rattle.pr_trace.proofs.lemmas.TraceText.Lines.{version_read}
-use Rattle.pr_report.proofs.lemmas.WordsWritten.Possibilities.{puts_as}
-use Rattle.pr_table.specs.Rows.{table_rows}
 use Rattle.pr_table.specs.TableText.{table_text}
 use Rattle.pr_table.proofs.lemmas.Rows.Counts.{few_rows}
 use Rattle.pr_table.proofs.lemmas.TableText.Hosts.{scripted_text}

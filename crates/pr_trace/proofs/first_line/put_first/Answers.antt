@@ -1,5 +1,5 @@
-use Rattle.pr_trace.proofs.Common.{first_line}
-use Rattle.pr_output.proofs.lemmas.Written.Fronts.{front_first, front_then, puts_err, puts_last}
+use Rattle.pr_trace.proofs.Common.{first_line, front_first, front_then, puts_err}
+use Rattle.pr_output.proofs.lemmas.Written.Fronts.{puts_last}
 use Rattle.pr_trace.proofs.first_line.put_first.Goals as goal
 
 pub returns-in_err-put : goal.returns-in_err-put

@@ -1,7 +1,7 @@
 -- Lines that are held back for a while, and then go out together.
-use Rattle.pr_trace.proofs.Common.{◌≡◌, ℕ, List, [], ◌++◌, Some, None, Ok, Err, Option, Result, sym, ap, ◌∙◌, append_assoc, append-nil, Appends, Wrote, FallsShort, Puts}
+use Rattle.pr_trace.proofs.Common.{◌≡◌, ℕ, List, [], ◌++◌, Some, None, Ok, Err, Option, Result, sym, ap, ◌∙◌, append_assoc, append-nil, Appends, Wrote, FallsShort, Puts, front_then}
 use Rattle.std.proofs.Common.{IsErr}
-use Rattle.pr_output.proofs.lemmas.Written.Fronts.{appends_both, wrote_more, wrote_all, wrote_front, front_then}
+use Rattle.pr_output.proofs.lemmas.Written.Fronts.{appends_both, wrote_more, wrote_all, wrote_front}
 use Rattle.pr_trace.specs.inside.FrontsWritten.{PutsAllBut}
 
 pub appends_nothing : (old : Option (List ℕ)) → Appends old old []

@@ -1,18 +1,15 @@
 -- Items that were written are read back.
-use Rattle.pr_trace.proofs.Common.{◌≡◌, ℕ, zero, suc, ◌+◌, ◌/◌, ◌%◌, ◌<◌, ◌≤◌, Bool, true, false, cond, ◌&&◌, List, [], ◌∷◌, ◌++◌, length, Some, Ok, codes, decimal, bytes_eq, sym, refl, ap, ◌∙◌, append_assoc, arith, length-append, ne_eqb, digit_glyph, digits_onto, digits, nat_tests, bytes_eq-Decides, Item, pairs_or_dash, joined_by_spaces, and_then, items_of, lines, words, item_on, is_later, name_of, item_lines, most_items, MOST_CDB_LENGTH, MOST_LETTERS, MOST_LINE_BYTES, PARAMETER_LIST_LENGTH}
+use Rattle.pr_trace.proofs.Common.{◌≡◌, ℕ, zero, suc, ◌+◌, ◌/◌, ◌%◌, ◌<◌, ◌≤◌, Bool, true, false, cond, ◌&&◌, List, [], ◌∷◌, ◌++◌, length, Some, Ok, codes, decimal, bytes_eq, sym, refl, ap, ◌∙◌, append_assoc, arith, length-append, ne_eqb, digit_glyph, digits_onto, digits, nat_tests, bytes_eq-Decides, Item, pairs_or_dash, joined_by_spaces, and_then, items_of, lines, words, item_on, is_later, name_of, item_lines, most_items, MOST_CDB_LENGTH, MOST_LETTERS, MOST_LINE_BYTES, PARAMETER_LIST_LENGTH, Reply, Status, AreBytes, has_status, HasSense, IsItem}
 use Rattle.std.proofs.Common.{eqb, add-zero, le-ltb}
 use Rattle.pr_cdb.specs.declared.codes.TheConstants.{MOST_DATA_LENGTH}
-use Rattle.pr_cdb.specs.declared.reply.Reply.{Reply}
-use Rattle.pr_cdb.specs.declared.reply.Status.{Status}
 use Rattle.pr_cdb.specs.declared.reply.Status.TheVariants.{Good}
 use Rattle.pr_cdb.specs.declared.wire.Wire.{Wire}
-use Rattle.pr_cdb.specs.Requests.{AreBytes}
 use Rattle.pr_roles.specs.declared.entry.Entry.{Entry}
 use Rattle.pr_roles.specs.declared.item.Item.TheVariants.{Sent, Reset}
 use Rattle.pr_roles.proofs.lemmas.Starts.AllowedStarts.{most_fits}
-use Rattle.pr_trace.specs.Versions.{has_resets, has_status, most_data}
+use Rattle.pr_trace.specs.Versions.{has_resets, most_data}
 use Rattle.pr_trace.specs.TraceText.{entry_line, item_line, reset_line, sense_data, status_word}
-use Rattle.pr_trace.specs.TraceLaws.{HasSense, IsEntry, IsItem}
+use Rattle.pr_trace.specs.TraceLaws.{IsEntry}
 use Rattle.pr_trace.specs.EntryWords.{exchange_in, reply_in, wire_in}
 use Rattle.pr_trace.specs.TraceReadings.{entry_on, is_reset_on}
 use Rattle.pr_trace.proofs.lemmas.TraceReadings.SolidWords.{solid_by, AreSolid, IsWord, bare, bytes_word, digits_word, line_back, spaced_none, spaced_word, words_back}

@@ -1,30 +1,26 @@
 -- What a command is answered can be written in a trace: bytes that are not too many, and a sense whose fields are in range.
-use Rattle.pr_trace.proofs.Common.{◌≡◌, ℕ, zero, suc, ◌+◌, ◌*◌, ◌%◌, ◌<◌, ◌≤◌, Bool, true, false, ◌&&◌, List, [], ◌∷◌, ◌++◌, length, nat_lt, ◌==◌, slice_index, Some, None, Ok, Err, Option, Result, if◌then◌else◌, sym, refl, subst, arith}
-use Rattle.std.specs.Prelude.{◌||◌, not, take, IsTrue, is_none}
-use Rattle.std.specs.Option.{option_map_or}
+use Rattle.pr_trace.proofs.Common.{◌≡◌, ℕ, zero, suc, ◌+◌, ◌*◌, ◌%◌, ◌<◌, ◌≤◌, Bool, true, false, ◌&&◌, List, [], ◌∷◌, ◌++◌, length, nat_lt, ◌==◌, slice_index, Some, None, Ok, Err, Option, Result, if◌then◌else◌, sym, refl, subst, arith, not, option_map_or, PARAMETER_LIST_LENGTH, Command, Reply, Status, AreBytes, State, most_declared, has_status, HasSense}
+use Rattle.std.specs.Prelude.{◌||◌, take, IsTrue, is_none}
 use Rattle.std.specs.FinMap as finmap
 use Rattle.std.specs.Int.{w32, w64, to_be_bytes}
 use Rattle.std.proofs.Common.{flat_map, le-leb}
-use Rattle.pr_cdb.specs.declared.codes.TheConstants.{NO_SENSE, NO_ADDITIONAL_SENSE_INFORMATION, REQUEST_SENSE, INQUIRY, PERSISTENT_RESERVE_IN, PERSISTENT_RESERVE_OUT, REPORT_LUNS, REPORT_CAPABILITIES, REGISTER_AND_IGNORE_EXISTING_KEY, DESC, INVALID_FIELD_IN_CDB, INVALID_FIELD_IN_PARAMETER_LIST, INVALID_RELEASE_OF_PERSISTENT_RESERVATION, LOGICAL_BLOCK_ADDRESS_OUT_OF_RANGE, PARAMETER_LIST_LENGTH, FIXED_SENSE_LENGTH}
+use Rattle.pr_cdb.specs.declared.codes.TheConstants.{NO_SENSE, NO_ADDITIONAL_SENSE_INFORMATION, REQUEST_SENSE, INQUIRY, PERSISTENT_RESERVE_IN, PERSISTENT_RESERVE_OUT, REPORT_LUNS, REPORT_CAPABILITIES, REGISTER_AND_IGNORE_EXISTING_KEY, DESC, INVALID_FIELD_IN_CDB, INVALID_FIELD_IN_PARAMETER_LIST, INVALID_RELEASE_OF_PERSISTENT_RESERVATION, LOGICAL_BLOCK_ADDRESS_OUT_OF_RANGE, FIXED_SENSE_LENGTH}
 use Rattle.pr_cdb.specs.declared.command.Kind.{Kind}
-use Rattle.pr_cdb.specs.declared.command.Command.{Command}
 use Rattle.pr_cdb.specs.declared.command.Command.TheVariants.{RequestSense, ReadKeys, ReadReservation, ReportCapabilities}
-use Rattle.pr_cdb.specs.declared.reply.Reply.{Reply}
 use Rattle.pr_cdb.specs.declared.reply.Sense.{Sense}
-use Rattle.pr_cdb.specs.declared.reply.Status.{Status}
 use Rattle.pr_cdb.specs.declared.reply.Status.TheVariants.{CheckCondition}
 use Rattle.pr_cdb.specs.declared.wire.Request.{Request}
 use Rattle.pr_cdb.specs.declared.wire.Request.TheVariants.{Plain, Faulty}
 use Rattle.pr_cdb.specs.declared.wire.Bad.{Bad}
 use Rattle.pr_cdb.specs.Bytes.{be32, has_flag}
 use Rattle.pr_cdb.specs.Kinds.{code_of}
-use Rattle.pr_cdb.specs.Requests.{request_of, named_command, length_of, has_refused_flag, plain_request, illegal, AreBytes}
+use Rattle.pr_cdb.specs.Requests.{request_of, named_command, length_of, has_refused_flag, plain_request, illegal}
 use Rattle.pr_cdb.specs.ReplyData.{sense_bytes, keys_bytes, reservation_bytes, capabilities_bytes, cut}
 use Rattle.pr_attention.specs.declared.attention.Attention.{Attention}
 use Rattle.pr_attention.specs.declared.attention.Attention.TheVariants.{PowerOn}
 use Rattle.pr_attention.specs.Attentions.{power_on, attention_sense, is_attention, code_of as code_of_attention}
 use Rattle.pr_attention.proofs.lemmas.FourCodes.{which}
-use Rattle.pr_registry.specs.Registrations.{State, IsWellFormed}
+use Rattle.pr_registry.specs.Registrations.{IsWellFormed}
 use Rattle.pr_registry.proofs.lemmas.Contents.{few_keys, length-keys_bytes}
 use Rattle.pr_unit.specs.Conduct.{conflicts, fault, command_fault, conduct, preempt_fault, range_fault, illegal as illegal_request}
 use Rattle.pr_unit.specs.UnitStates.{UnitState, IsWellFormed as IsWellFormedUnit, is_any_pending, is_pending}
@@ -34,9 +30,7 @@ use Rattle.pr_unit.specs.Demands.{Asked, demand_of}
 use Rattle.pr_unit.specs.Replies.{good, check, conflict, refused_with, report, is_request_sense, reservation, data_of}
 use Rattle.pr_unit.specs.Steps.{IsDone, Step}
 use Rattle.pr_roles.specs.declared.limits.TheConstants.{MOST_DECLARED_1, MOST_DECLARED_2}
-use Rattle.pr_roles.specs.Fitting.{most_declared}
-use Rattle.pr_trace.specs.Versions.{has_status, most_data, since}
-use Rattle.pr_trace.specs.TraceLaws.{HasSense}
+use Rattle.pr_trace.specs.Versions.{most_data, since}
 use Rattle.pr_roles.proofs.lemmas.Worlds.SpelledBytes.{both, code_small, literal, more, none, number}
 use Rattle.pr_trace.proofs.lemmas.TraceLaws.Words.{data_are_bytes, data_short}
 

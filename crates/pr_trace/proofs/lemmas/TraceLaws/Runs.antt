@@ -1,20 +1,17 @@
 -- The trace of a run is read back.
-use Rattle.pr_trace.proofs.Common.{◌≡◌, ℕ, zero, suc, ◌+◌, ◌<◌, ◌≤◌, true, false, List, [], ◌∷◌, ◌++◌, map, length, drop, codes, nat_le, ◌==◌, Some, None, Ok, Err, Option, sym, refl, ap, ◌∙◌, subst, inl, inr, arith, nat_tests, Item, names_in, MOST_CDB_LENGTH, MOST_NEXUSES, PARAMETER_LIST_LENGTH}
-use Rattle.std.specs.Prelude.{◌^◌, ◌⊎◌, ◌≢◌, ◌&&◌, Bool, not, IsTrue, is_some, slice_set}
+use Rattle.pr_trace.proofs.Common.{◌≡◌, ℕ, zero, suc, ◌+◌, ◌<◌, ◌≤◌, true, false, List, [], ◌∷◌, ◌++◌, map, length, drop, codes, nat_le, ◌==◌, Some, None, Ok, Err, Option, sym, refl, ap, ◌∙◌, subst, inl, inr, arith, nat_tests, Item, names_in, MOST_CDB_LENGTH, MOST_NEXUSES, PARAMETER_LIST_LENGTH, not, option_map_or, and_parts, Command, Reply, AreBytes, is_name, Fits, most_declared, Scenario, Nexus, IsItem, trace_of}
+use Rattle.std.specs.Prelude.{◌^◌, ◌⊎◌, ◌≢◌, ◌&&◌, Bool, IsTrue, is_some, slice_set}
 use Rattle.std.specs.List.{All, slice_get}
-use Rattle.std.specs.Option.{option_map_or}
-use Rattle.std.proofs.lemmas.Bool.{and_parts, false≢true, or_cases}
+use Rattle.std.proofs.lemmas.Bool.{false≢true, or_cases}
 use Rattle.std.proofs.lemmas.Bool.Decides.{eqb_tells}
 use Rattle.std.proofs.lemmas.Option.{none-some, same_Some}
-use Rattle.pr_cdb.specs.declared.command.Command.{Command}
 use Rattle.pr_cdb.specs.declared.command.Command.TheVariants.{TestUnitReady, RequestSense, Read, Write, ReadKeys, ReadReservation, ReportCapabilities, Register, Preempt, PreemptAbort}
-use Rattle.pr_cdb.specs.declared.reply.Reply.{Reply}
 use Rattle.pr_cdb.specs.declared.wire.Wire.{Wire}
 use Rattle.pr_cdb.specs.declared.wire.Request.{Request}
 use Rattle.pr_cdb.specs.declared.wire.Request.TheVariants.{Plain}
 use Rattle.pr_cdb.specs.declared.wire.Bad.TheVariants.{Short}
 use Rattle.pr_cdb.specs.Ranges.{FitsWhereRead}
-use Rattle.pr_cdb.specs.Requests.{AreBytes, request_of}
+use Rattle.pr_cdb.specs.Requests.{request_of}
 unfoldable use Rattle.pr_cdb.specs.Spelling.{spelling}
 use Rattle.pr_cdb.proofs.lemmas.FieldRanges.{reads_fit}
 use Rattle.pr_registry.specs.Registrations.{IsKey, IsWellFormed as IsWellFormedRegistry}
@@ -26,14 +23,12 @@ use Rattle.pr_unit.proofs.lemmas.Attentions.Resets.{well_formed-reset}
 use Rattle.pr_unit.proofs.lemmas.Steps.QuietSteps.{quiet_steps}
 use Rattle.pr_unit.proofs.lemmas.Steps.WellFormedSteps.{hosts-step, well_formed-step}
 use Rattle.pr_script.specs.Grammar.{is_declared, is_written, is_written_key}
-use Rattle.pr_script.specs.Names.{is_name}
 use Rattle.pr_script.specs.Scripts.{Configuration, sends, repeats, breaks, stops as stops_with, statement, mark, ready, standing_of_items}
 use Rattle.pr_roles.specs.declared.how.How.{How}
 use Rattle.pr_roles.specs.declared.how.How.TheVariants as how
 use Rattle.pr_roles.specs.declared.item.Item.TheVariants.{Sent, Reset}
 use Rattle.pr_roles.specs.Answers.{Answers, may_come}
-use Rattle.pr_roles.specs.Fitting.{Fits, most_declared}
-use Rattle.pr_roles.specs.Scenarios.{Scenario, Nexus, Task, task}
+use Rattle.pr_roles.specs.Scenarios.{Task, task}
 use Rattle.pr_roles.specs.Starts.{IsAllowedStart}
 use Rattle.pr_roles.specs.Worlds.{World, Event, Host, Guest, UnitReset, Happens, Run, Control, Going, Trapped, Free, control, control_of, control_after, after, standing_of, entry_of, world_from, is_guest_task}
 use Rattle.pr_roles.proofs.lemmas.FirstStarts.Existence.{declared_key}
@@ -42,8 +37,7 @@ use Rattle.pr_roles.proofs.lemmas.Starts.AllowedStarts.{counted, each_nexus}
 use Rattle.pr_roles.proofs.lemmas.Worlds.Controls.{there}
 use Rattle.pr_roles.proofs.lemmas.Worlds.Resets.{first_version_has_no_reset}
 use Rattle.pr_audit.specs.Ends.{Ending, stops, waits, traps, leaves, ending, ending_by, endings, counts_in}
-use Rattle.pr_trace.specs.TraceLaws.{IsEnding, IsItem, TracesOfRunsAreRead}
-use Rattle.pr_trace.specs.TraceReadings.{trace_of}
+use Rattle.pr_trace.specs.TraceLaws.{IsEnding, TracesOfRunsAreRead}
 use Rattle.pr_trace.proofs.lemmas.TraceReadings.ScenarioNames.{names_count}
 use Rattle.pr_trace.proofs.lemmas.TraceLaws.Entries.{AreItems}
 use Rattle.pr_trace.proofs.lemmas.TraceLaws.Replies.{IsReply, SenseWhereRead, reads_senses, refused_is, step_is}

@@ -1,19 +1,14 @@
 -- All that is still to do of a script that fits can be written in a text: its commands, and the words that it stops with.
-use Rattle.pr_trace.proofs.Common.{◌≡◌, ℕ, zero, suc, ◌+◌, Bool, true, false, ◌&&◌, List, [], ◌∷◌, nat_lt, Some, subst}
+use Rattle.pr_trace.proofs.Common.{◌≡◌, ℕ, zero, suc, ◌+◌, Bool, true, false, ◌&&◌, List, [], ◌∷◌, nat_lt, Some, subst, list_all, option_map_or, and_parts, Command, Reply, is_name, Nexus}
 use Rattle.std.specs.Prelude.{drop, map, option_map, slice_set, if◌then◌else◌}
-use Rattle.std.specs.List.{slice_get, list_all}
-use Rattle.std.specs.Option.{option_map_or}
-use Rattle.std.proofs.lemmas.Bool.{and_parts}
+use Rattle.std.specs.List.{slice_get}
 use Rattle.std.proofs.lemmas.Option.{none-some}
-use Rattle.pr_cdb.specs.declared.command.Command.{Command}
-use Rattle.pr_cdb.specs.declared.reply.Reply.{Reply}
 use Rattle.pr_script.specs.declared.limits.TheConstants.{MOST_OPEN}
-use Rattle.pr_script.specs.Names.{is_name}
 use Rattle.pr_script.specs.Scripts.{Stmt, sends, repeats, breaks, stops, Stmts, none, more, Arms, no_arm, arm, Configuration, statement, mark, before, turn, past_mark, becomes, settled_form, standing_of_items, ready, stopped}
 use Rattle.pr_script.specs.Takes.{matches, first_match, take}
 use Rattle.pr_script.specs.Grammar.{is_written, is_send_written, is_repeat_written, statement_fits, statements_fit, arms_fit, test_fits, script_fits}
 use Rattle.pr_script.proofs.lemmas.Next.Settlement.{kept}
-use Rattle.pr_roles.specs.Scenarios.{Task, Scripted, Planned, Nexus}
+use Rattle.pr_roles.specs.Scenarios.{Task, Scripted, Planned}
 use Rattle.pr_roles.specs.Fitting.{is_nexus, is_role, is_start, is_task}
 use Rattle.pr_roles.specs.Worlds.{Control, Going, Trapped, Free, control_after, control_of, going_or_trapped, standing_of}
 

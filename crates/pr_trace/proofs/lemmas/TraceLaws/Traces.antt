@@ -1,21 +1,18 @@
 -- The text of a trace is read back.
-use Rattle.pr_trace.proofs.Common.{◌≡◌, ℕ, suc, ◌+◌, ◌*◌, ◌<◌, ◌≤◌, true, false, List, [], ◌∷◌, ◌++◌, length, nat_le, slice_index, Some, None, Ok, codes, decimal, All, Option, sym, refl, ap, ◌∙◌, subst, append_assoc, append-nil, arith, length-append, nat_tests, MOST_NEXUSES, Item, joined_by_spaces, line, and_then, later_lines, items_of, trace_in, lines, is_later, names_in, name_of, item_lines, held_word, ending_lines, first_line, unit_line, most_items, MOST_LATER_LINES, MOST_LETTERS, MOST_LINE_BYTES}
+use Rattle.pr_trace.proofs.Common.{◌≡◌, ℕ, suc, ◌+◌, ◌*◌, ◌<◌, ◌≤◌, true, false, List, [], ◌∷◌, ◌++◌, length, nat_le, slice_index, Some, None, Ok, codes, decimal, All, Option, sym, refl, ap, ◌∙◌, subst, append_assoc, append-nil, arith, length-append, nat_tests, MOST_NEXUSES, Item, joined_by_spaces, line, and_then, later_lines, items_of, trace_in, lines, is_later, names_in, name_of, item_lines, held_word, ending_lines, first_line, unit_line, most_items, MOST_LATER_LINES, MOST_LETTERS, MOST_LINE_BYTES, State, Fits, Scenario, IsItem, trace_of}
 use Rattle.std.proofs.Common.{◌^◌}
 use Rattle.std.specs.Int.{w32, to_be_bytes}
 use Rattle.std.specs.List.{AllByRecursion}
 use Rattle.std.proofs.lemmas.List.Elements.{recursion_from_All}
 use Rattle.pr_registry.specs.declared.held.Held.TheVariants.{All as Everybody, One}
 use Rattle.pr_output.proofs.lemmas.PrintedLines.KeyDigits.{key_short}
-use Rattle.pr_registry.specs.Registrations.{IsWellFormed, State, key_of}
+use Rattle.pr_registry.specs.Registrations.{IsWellFormed, key_of}
 use Rattle.pr_registry.specs.declared.held.Held.{Held}
 use Rattle.pr_cdb.specs.Kinds.{code_of}
 use Rattle.pr_audit.specs.Ends.{Ending, stops, waits, traps, leaves}
 use Rattle.pr_output.specs.PrintedLines.{generation_word, key_or_dash, registration_word}
-use Rattle.pr_roles.specs.Fitting.{Fits}
-use Rattle.pr_roles.specs.Scenarios.{Scenario}
 use Rattle.pr_trace.specs.TraceText.{ending_line, registration_words, trace_text}
-use Rattle.pr_trace.specs.TraceLaws.{IsEnding, IsItem, WrittenTracesAreRead}
-use Rattle.pr_trace.specs.TraceReadings.{trace_of}
+use Rattle.pr_trace.specs.TraceLaws.{IsEnding, WrittenTracesAreRead}
 use Rattle.pr_trace.proofs.lemmas.LinesAhead.EntriesInFront.{entries_later, lines_none}
 use Rattle.pr_trace.proofs.lemmas.TraceReadings.SolidWords.{is_solid, solid_by, AreSolid, IsWord, bare, bare_back, digits_word, line_back, pairs_word, spaced_none, spaced_word, word_both}
 use Rattle.pr_trace.proofs.lemmas.TraceLaws.Words.{same_bytes}

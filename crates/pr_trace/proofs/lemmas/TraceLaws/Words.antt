@@ -1,16 +1,12 @@
 -- Words that were written are read back.
-use Rattle.pr_trace.proofs.Common.{◌≡◌, ℕ, zero, suc, ◌+◌, ◌/◌, ◌%◌, ◌<◌, ◌≤◌, true, false, List, [], ◌∷◌, length, slice_index, Some, None, codes, Option, bytes_eq, refl, ap, inl, inr, arith, ne_eqb, digit_glyph, cases_lt, nat_tests, bytes_eq-Decides, pairs_in, pairs_or_dash, pairs}
-use Rattle.std.proofs.lemmas.Bool.{le-leb, lt-leb, lt-ltb}
+use Rattle.pr_trace.proofs.Common.{◌≡◌, ℕ, zero, suc, ◌+◌, ◌/◌, ◌%◌, ◌<◌, ◌≤◌, true, false, List, [], ◌∷◌, length, slice_index, Some, None, codes, Option, bytes_eq, refl, ap, inl, inr, arith, ne_eqb, digit_glyph, cases_lt, nat_tests, bytes_eq-Decides, pairs_in, pairs_or_dash, pairs, lt-ltb, Status, AreBytes, has_status, HasSense}
+use Rattle.std.proofs.lemmas.Bool.{le-leb, lt-leb}
 use Rattle.pr_cdb.specs.declared.reply.Sense.{Sense}
-use Rattle.pr_cdb.specs.declared.reply.Status.{Status}
 use Rattle.pr_cdb.specs.declared.reply.Status.TheVariants.{Good, CheckCondition}
-use Rattle.pr_cdb.specs.Requests.{AreBytes}
 use Rattle.pr_cdb.specs.ReplyData.{sense_bytes}
 use Rattle.pr_cdb.proofs.lemmas.ReplyRoundTrip.{sense_in-sense_bytes}
 use Rattle.pr_script.specs.Digits.{byte_of, digit_of, digit_value}
-use Rattle.pr_trace.specs.Versions.{has_status}
 use Rattle.pr_trace.specs.TraceText.{sense_data, status_word}
-use Rattle.pr_trace.specs.TraceLaws.{HasSense}
 use Rattle.pr_trace.specs.EntryWords.{bytes_in, sense_under, status_in}
 use Rattle.pr_trace.proofs.lemmas.EntryWords.PairBytes.{bytes_all, bytes_dash}
 

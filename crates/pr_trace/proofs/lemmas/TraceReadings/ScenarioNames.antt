@@ -1,13 +1,11 @@
 -- The names of a scenario, as words of a trace.
-use Rattle.pr_trace.proofs.Common.{◌≡◌, ℕ, zero, suc, ◌<◌, ◌≤◌, Bool, true, false, cond, ◌&&◌, List, [], ◌∷◌, map, length, get_or, nat_lt, nat_le, ◌==◌, Some, None, bytes_eq, sym, refl, subst, inl, inr, arith, position_or_len, cases_lt, nat_tests, bytes_eq-Decides, MOST_NEXUSES, names_in, name_of, MOST_LETTERS, lt-ltb}
-use Rattle.std.specs.Prelude.{not}
-use Rattle.std.specs.List.{list_all, list_any}
-use Rattle.std.proofs.lemmas.Bool.{and_parts, or_parts, not-true}
+use Rattle.pr_trace.proofs.Common.{◌≡◌, ℕ, zero, suc, ◌<◌, ◌≤◌, Bool, true, false, cond, ◌&&◌, List, [], ◌∷◌, map, length, get_or, nat_lt, nat_le, ◌==◌, Some, None, bytes_eq, sym, refl, subst, inl, inr, arith, position_or_len, cases_lt, nat_tests, bytes_eq-Decides, MOST_NEXUSES, names_in, name_of, MOST_LETTERS, lt-ltb, not, list_all, and_parts, is_name, Scenario, Nexus, most_declared, Fits}
+use Rattle.std.specs.List.{list_any}
+use Rattle.std.proofs.lemmas.Bool.{or_parts, not-true}
 use Rattle.std.proofs.lemmas.List.{get_or_past, length-map}
 use Rattle.std.proofs.lemmas.List.Sums.{position_or_len_is}
-use Rattle.pr_script.specs.Names.{is_name, is_name_byte}
-use Rattle.pr_roles.specs.Scenarios.{Scenario, Nexus}
-use Rattle.pr_roles.specs.Fitting.{most_declared, Fits, are_distinct, is_nexus, is_role, is_start, is_task}
+use Rattle.pr_script.specs.Names.{is_name_byte}
+use Rattle.pr_roles.specs.Fitting.{are_distinct, is_nexus, is_role, is_start, is_task}
 use Rattle.pr_roles.proofs.lemmas.Starts.AllowedStarts.{counted}
 use Rattle.pr_trace.specs.TraceReadings.{number_of}
 use Rattle.pr_trace.proofs.lemmas.TraceReadings.SolidWords.{IsSolid, IsWord}

@@ -1,8 +1,7 @@
 -- The words of a trace: no byte of one is a space or a line feed, and none is long.
-use Rattle.pr_trace.proofs.Common.{◌≡◌, ℕ, zero, suc, ◌+◌, ◌*◌, ◌/◌, ◌%◌, ◌<◌, ◌≤◌, Bool, true, false, cond, List, [], ◌∷◌, ◌++◌, length, nat_lt, ◌==◌, All, sym, refl, ap, ◌∙◌, append_assoc, append-nil, arith, length-append, ne_eqb, digit_glyph, digits_onto, digits, slice_split, nat_tests, length-slice_split, pairs_or_dash, joined_by_spaces, line, pairs, lines, words}
+use Rattle.pr_trace.proofs.Common.{◌≡◌, ℕ, zero, suc, ◌+◌, ◌*◌, ◌/◌, ◌%◌, ◌<◌, ◌≤◌, Bool, true, false, cond, List, [], ◌∷◌, ◌++◌, length, nat_lt, ◌==◌, All, sym, refl, ap, ◌∙◌, append_assoc, append-nil, arith, length-append, ne_eqb, digit_glyph, digits_onto, digits, slice_split, nat_tests, length-slice_split, pairs_or_dash, joined_by_spaces, line, pairs, lines, words, list_all, and_parts}
 use Rattle.std.proofs.Common.{eqb}
-use Rattle.std.specs.List.{list_all}
-use Rattle.std.proofs.lemmas.Bool.{and_parts, ltb-true}
+use Rattle.std.proofs.lemmas.Bool.{ltb-true}
 use Rattle.std.proofs.lemmas.List.Elements.{All-cons, All-nil}
 use Rattle.std.proofs.lemmas.List.Splits.{slice_split_at, slice_split_none}
 use Rattle.pr_trace.specs.TraceReadings.{lines_of_parts}

@@ -1,12 +1,11 @@
 -- A trace is read in three steps: the first line, the entries, and the lines behind them.
-use Rattle.pr_trace.proofs.Common.{◌≡◌, ℕ, ◌≤◌, List, [], length, IfSome, Some, None, Ok, Option, Result, sym, ap, ◌∙◌, subst, prepend_known, MOST_NEXUSES, scenario_of, Item, Parts, and_then, later_lines, items_of, trace_in, lines, names_in, names_of, Leads}
+use Rattle.pr_trace.proofs.Common.{◌≡◌, ℕ, ◌≤◌, List, [], length, IfSome, Some, None, Ok, Option, Result, sym, ap, ◌∙◌, subst, prepend_known, MOST_NEXUSES, scenario_of, Item, Parts, and_then, later_lines, items_of, trace_in, lines, names_in, names_of, Leads, Fits, trace_of}
 use Rattle.std.proofs.KnownBytes.{prepend_known-nil}
 use Rattle.pr_roles.specs.declared.parts.Nexus.{Nexus}
-use Rattle.pr_roles.specs.Fitting.{Fits}
 use Rattle.pr_roles.proofs.lemmas.Starts.AllowedStarts.{few_parts}
 use Rattle.pr_trace.specs.declared.trace_error.TraceError.{TraceError}
 use Rattle.pr_trace.specs.declared.trace_error.TraceError.TheVariants.{ReadFault, Memory}
-use Rattle.pr_trace.specs.TraceReadings.{Faults, trace_of}
+use Rattle.pr_trace.specs.TraceReadings.{Faults}
 use Rattle.pr_trace.specs.inside.LinesAhead.{Between, FirstRead, ItemsRead}
 use Rattle.pr_trace.proofs.lemmas.TraceText.Lines.{names_of_scenario}
 

@@ -1,10 +1,10 @@
 -- A trace goes out one line after another.
-use Rattle.pr_trace.proofs.Common.{◌≡◌, ℕ, suc, ◌+◌, ◌<◌, ◌≤◌, List, [], ◌∷◌, ◌++◌, map, length, get_or, drop, slice_index, codes, Option, Result, sym, refl, ap, ◌∙◌, subst, append_assoc, append-nil, Appends, scenario_of, Item, Parts, ending_of, joined_by_spaces, line, names_in, names_of, name_of, item_lines, held_word, ending_lines, first_line, unit_line, Wrote, FallsShort, Puts}
+use Rattle.pr_trace.proofs.Common.{◌≡◌, ℕ, suc, ◌+◌, ◌<◌, ◌≤◌, List, [], ◌∷◌, ◌++◌, map, length, get_or, drop, slice_index, codes, Option, Result, sym, refl, ap, ◌∙◌, subst, append_assoc, append-nil, Appends, scenario_of, Item, Parts, ending_of, joined_by_spaces, line, names_in, names_of, name_of, item_lines, held_word, ending_lines, first_line, unit_line, Wrote, FallsShort, Puts, State}
 use Rattle.std.proofs.Common.{add-one, drop_of_length-le, drop-cons}
 use Rattle.pr_output.specs.PrintedLines.{generation_word, registration_word}
 use Rattle.pr_trace.specs.TraceText.{item_line, ending_line, registration_words, trace_body, trace_text}
 use Rattle.pr_roles.specs.declared.parts.Nexus.{Nexus as NexusPart}
-use Rattle.pr_registry.specs.Registrations.{State, key_of}
+use Rattle.pr_registry.specs.Registrations.{key_of}
 use Rattle.pr_audit.specs.declared.end.End.{End}
 use Rattle.pr_output.proofs.lemmas.Written.Fronts.{wrote_front, wrote_more}
 use Rattle.pr_roles.proofs.lemmas.Fitting.DistinctLists.{names_of_parts}

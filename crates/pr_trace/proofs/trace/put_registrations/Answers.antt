@@ -1,5 +1,5 @@
-use Rattle.pr_trace.proofs.Common.{printed_word}
-use Rattle.pr_output.proofs.lemmas.Written.Fronts.{puts_err, wrote_all}
+use Rattle.pr_trace.proofs.Common.{printed_word, puts_err}
+use Rattle.pr_output.proofs.lemmas.Written.Fronts.{wrote_all}
 use Rattle.pr_trace.proofs.lemmas.TraceText.Lines.{registrations_front, registrations_more, registrations_end}
 use Rattle.pr_trace.proofs.trace.put_registrations.Goals as goal
 

@@ -1,6 +1,5 @@
-use Rattle.pr_trace.proofs.Common.{map, ending_of, names_of}
+use Rattle.pr_trace.proofs.Common.{map, ending_of, names_of, puts_err}
 use Rattle.pr_trace.specs.TraceText.{trace_body}
-use Rattle.pr_output.proofs.lemmas.Written.Fronts.{puts_err}
 use Rattle.pr_trace.proofs.lemmas.FrontsWritten.HeldLines.{held_end, held_last, held_over}
 use Rattle.pr_trace.proofs.lemmas.TraceText.Lines.{first_front, first_put}
 use Rattle.pr_trace.proofs.trace.put_trace.Goals as goal

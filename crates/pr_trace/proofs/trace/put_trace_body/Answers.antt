@@ -1,4 +1,4 @@
-use Rattle.pr_output.proofs.lemmas.Written.Fronts.{puts_err}
+use Rattle.pr_trace.proofs.Common.{puts_err}
 use Rattle.pr_trace.proofs.lemmas.FrontsWritten.HeldLines.{held_end, held_first, held_last, held_over}
 use Rattle.pr_trace.proofs.trace.put_trace_body.Goals as goal
 

@@ -1,5 +1,5 @@
-use Rattle.pr_trace.proofs.Common.{printed_word}
-use Rattle.pr_output.proofs.lemmas.Written.Fronts.{front_first, front_then, puts_err, puts_last}
+use Rattle.pr_trace.proofs.Common.{printed_word, front_first, front_then, puts_err}
+use Rattle.pr_output.proofs.lemmas.Written.Fronts.{puts_last}
 use Rattle.pr_trace.proofs.lemmas.TraceText.Lines.{unit_pieces}
 use Rattle.pr_trace.proofs.trace.put_unit.Goals as goal
 

@@ -1,6 +1,5 @@
-use Rattle.pr_trace.proofs.Common.{◌+◌, arith, scenario_of, bytes_of_lines, names_in, names_of, most_items}
+use Rattle.pr_trace.proofs.Common.{◌+◌, arith, scenario_of, bytes_of_lines, names_in, names_of, most_items, MOST_LATER_LINES}
 use Rattle.std.proofs.lemmas.Result.{err_from_is_err_and}
-use Rattle.pr_trace.specs.declared.trace_reading.TheConstants.{MOST_LATER_LINES}
 use Rattle.pr_trace.proofs.lemmas.LinesAhead.EntriesInFront.{entries_bounded}
 use Rattle.pr_trace.proofs.lemmas.BytesTaken.Sums.{held_few, loses_of_trace, takes_both}
 use Rattle.pr_trace.proofs.lemmas.TraceText.Lines.{version_read}

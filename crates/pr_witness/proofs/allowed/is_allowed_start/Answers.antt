@@ -1,10 +1,8 @@
-use Rattle.std.proofs.Common.{◌≡◌, List, length, Option, ap, ◌∙◌, subst, arith}
+use Rattle.pr_witness.proofs.Common.{◌≡◌, List, length, Option, ap, ◌∙◌, subst, arith, Parts, MayStartBelow}
 use Rattle.std.specs.List.{Contains}
 use Rattle.pr_registry.specs.declared.held.Held.{Held}
 use Rattle.pr_registry.specs.Registrations.{State}
 use Rattle.pr_roles.specs.declared.parts.Nexus.{Nexus}
-use Rattle.pr_roles.specs.declared.parts.Parts.{Parts}
-use Rattle.pr_witness.specs.inside.Starting.{MayStartBelow}
 use Rattle.pr_witness.proofs.lemmas.AllowedStarts.{allowed}
 use Rattle.pr_witness.proofs.allowed.is_allowed_start.Goals as goal
 

@@ -1,4 +1,4 @@
-use Rattle.pr_witness.specs.inside.Starting.{MayStartBelow}
+use Rattle.pr_witness.proofs.Common.{MayStartBelow}
 use Rattle.pr_witness.proofs.allowed.may_start_each.Given as goal
 
 -- so may those before this one

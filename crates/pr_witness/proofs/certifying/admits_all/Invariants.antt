@@ -1,7 +1,4 @@
-use Rattle.std.proofs.Common.{[], take}
-use Rattle.pr_unit.specs.UnitStates.{UnitState}
-use Rattle.pr_roles.specs.Scenarios.{scenario_of}
-use Rattle.pr_audit.specs.Auditors.{ActFor, world_at}
+use Rattle.pr_witness.proofs.Common.{[], take, UnitState, scenario_of, ActFor, world_at}
 use Rattle.pr_witness.specs.inside.Following.{IsFollowed}
 use Rattle.pr_witness.proofs.certifying.admits_all.Given as goal
 

@@ -1,4 +1,4 @@
-use Rattle.std.proofs.Common.{refl}
+use Rattle.pr_witness.proofs.Common.{refl}
 use Rattle.pr_witness.proofs.lemmas.FollowedHistories.{followed_whole, forbidden_whole}
 use Rattle.pr_witness.proofs.certifying.breaks.Goals as goal
 

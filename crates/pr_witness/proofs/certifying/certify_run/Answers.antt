@@ -1,4 +1,4 @@
-use Rattle.std.proofs.Common.{refl}
+use Rattle.pr_witness.proofs.Common.{refl}
 use Rattle.pr_witness.proofs.lemmas.FollowedHistories.{run_from}
 use Rattle.pr_witness.proofs.certifying.certify_run.Goals as goal
 

@@ -1,12 +1,7 @@
-use Rattle.std.proofs.Common.{[], ◌∷◌, ◌++◌, ◌<◌, List, Option, Some, length, take, sym, ap, ◌∙◌, arith}
-use Rattle.std.specs.Prelude.{map}
+use Rattle.pr_witness.proofs.Common.{[], ◌∷◌, ◌++◌, ◌<◌, List, Option, Some, length, take, sym, ap, ◌∙◌, arith, map, UnitState, scenario_of, End, world_at, ending_of}
 use Rattle.std.proofs.lemmas.List.{map-append}
 use Rattle.pr_registry.specs.Registrations.{State}
-use Rattle.pr_unit.specs.UnitStates.{UnitState}
-use Rattle.pr_roles.specs.Scenarios.{scenario_of}
-use Rattle.pr_audit.specs.declared.end.End.{End}
-use Rattle.pr_audit.specs.Auditors.{world_at}
-use Rattle.pr_audit.specs.Ends.{Ending, ending_of}
+use Rattle.pr_audit.specs.Ends.{Ending}
 use Rattle.pr_witness.proofs.lemmas.Ends.{all_endings, endings_more, endings_over, plan_short}
 use Rattle.pr_witness.proofs.certifying.ends_of.Goals as goal
 

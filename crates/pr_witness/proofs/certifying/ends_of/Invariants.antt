@@ -1,9 +1,6 @@
-use Rattle.std.proofs.Common.{◌≡◌, [], take, Some}
-use Rattle.std.specs.Prelude.{map}
-use Rattle.pr_roles.specs.Scenarios.{scenario_of}
+use Rattle.pr_witness.proofs.Common.{◌≡◌, [], take, Some, map, scenario_of, world_at, ending_of}
 use Rattle.pr_roles.specs.Schedules.{plan_of}
-use Rattle.pr_audit.specs.Auditors.{world_at}
-use Rattle.pr_audit.specs.Ends.{ending_of, endings}
+use Rattle.pr_audit.specs.Ends.{endings}
 use Rattle.pr_witness.proofs.certifying.ends_of.Given as goal
 
 -- how those before this one stand

@@ -1,7 +1,4 @@
-use Rattle.std.proofs.Common.{◌<◌, length, ap, ◌∙◌, arith}
-use Rattle.pr_roles.specs.Scenarios.{scenario_of}
-use Rattle.pr_unit.specs.UnitStates.{UnitState}
-use Rattle.pr_audit.proofs.lemmas.Auditors.Admissions.{within_parts}
+use Rattle.pr_witness.proofs.Common.{◌<◌, length, ap, ◌∙◌, arith, scenario_of, UnitState, within_parts}
 use Rattle.pr_witness.proofs.lemmas.FollowedHistories.{control_there}
 use Rattle.pr_witness.proofs.certifying.is_forbidden.Goals as goal
 

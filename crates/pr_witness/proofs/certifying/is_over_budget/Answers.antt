@@ -1,4 +1,4 @@
-use Rattle.pr_audit.proofs.lemmas.Auditors.Admissions.{within_parts}
+use Rattle.pr_witness.proofs.Common.{within_parts}
 use Rattle.pr_witness.proofs.certifying.is_over_budget.Goals as goal
 
 pub nexus_in-requires : goal.nexus_in-requires

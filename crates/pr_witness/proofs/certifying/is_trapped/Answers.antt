@@ -1,8 +1,5 @@
-use Rattle.std.proofs.Common.{◌≡◌, ℕ, [], Some, refl, ap, ◌∙◌, arith}
-use Rattle.std.proofs.lemmas.Bool.Decides.{nat_tests}
-use Rattle.pr_audit.specs.declared.end.End.{End}
-use Rattle.pr_audit.specs.Ends.{ending_of, traps}
-use Rattle.pr_audit.proofs.lemmas.Auditors.Admissions.{within_parts}
+use Rattle.pr_witness.proofs.Common.{◌≡◌, ℕ, [], Some, refl, ap, ◌∙◌, arith, nat_tests, End, ending_of, within_parts}
+use Rattle.pr_audit.specs.Ends.{traps}
 use Rattle.pr_witness.proofs.lemmas.Ends.{trapped_from}
 use Rattle.pr_witness.proofs.lemmas.FollowedHistories.{control_there}
 use Rattle.pr_witness.proofs.certifying.is_trapped.Goals as goal

@@ -1,7 +1,5 @@
-use Rattle.std.proofs.Common.{ℕ, List, refl, ap, ◌∙◌}
-use Rattle.std.specs.Prelude.{map}
+use Rattle.pr_witness.proofs.Common.{ℕ, List, refl, ap, ◌∙◌, map, Item}
 use Rattle.std.specs.List.{range_with_len}
-use Rattle.pr_roles.specs.declared.item.Item.{Item}
 use Rattle.pr_roles.specs.Worlds.{commands_by}
 use Rattle.pr_witness.proofs.lemmas.FollowedHistories.{parts_count}
 use Rattle.pr_witness.proofs.certifying.run_of.Goals as goal
