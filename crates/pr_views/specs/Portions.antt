@@ -1,6 +1,7 @@
 -- Agrees with docs/VIEWS.md, 'What a view has'.
 -- Sets of the states that a view shows. Every question about those states is asked of such portions.
 use Rattle.std.specs.Prelude.{◌≡◌, ◌≢◌, ◌⊎◌, ℕ, ◌<◌, Bool, true, false, List, Option, Some, None, option_map}
+use Rattle.std.specs.FinSet as set
 use Rattle.std.specs.List.{slice_get}
 use Rattle.std.specs.Option.{option_map_or}
 use Rattle.pr_registry.specs.declared.held.Held.{Held}
@@ -9,6 +10,7 @@ use Rattle.pr_unit.specs.UnitStates.{UnitState}
 use Rattle.pr_roles.specs.Fitting.{is_reservation}
 use Rattle.pr_sets.specs.declared.bit_set.BitSet.{BitSet}
 use Rattle.pr_sets.specs.BitSets.{has}
+use Rattle.pr_sets.specs.Numbers.{Numbers}
 use Rattle.pr_sets.specs.Wides.{has_wide}
 use Rattle.pr_views.specs.declared.portion.Portion.{Portion}
 use Rattle.pr_views.specs.declared.possibilities.Possibilities.{Possibilities}
@@ -18,6 +20,10 @@ use Rattle.pr_views.specs.Views.{View, Shows}
 -- n is in the word at this place of the list
 abbrev pub has_at : List BitSet → ℕ → ℕ → Bool
 has_at words g n = option_map_or (λ w. has w n) (slice_get words g) false
+
+-- n is a member of the set at this place of the list
+abbrev pub contains_at : {S : Type 0} → (S → Numbers) → List S → ℕ → ℕ → Bool
+contains_at members sets g n = option_map_or (λ s. set.contains (members s) n) (slice_get sets g) false
 
 -- the view that possibilities are, to whom they belong
 abbrev pub view_in : Scope → Possibilities → View

@@ -1,10 +1,7 @@
 -- Agrees with docs/VIEWS.md, 'What a view has'.
 -- The view that a value of the program is.
-use Rattle.std.specs.Prelude.{◌≡◌, ℕ, ◌<◌, ◌≤◌, Bool, true, false, List, length}
+use Rattle.std.specs.Prelude.{◌≡◌, ℕ, ◌<◌, ◌≤◌, true, List, length}
 use Rattle.std.specs.FinSet as set
-use Rattle.std.specs.List.{slice_get}
-use Rattle.std.specs.Option.{option_map_or}
-use Rattle.pr_sets.specs.Numbers.{Numbers}
 use Rattle.pr_sets.specs.declared.view_set.ViewSet.{Ghosts as ViewSet}
 use Rattle.pr_views.specs.declared.view.ViewOf.{ViewOf}
 use Rattle.pr_views.specs.Possibilities.{Scope, count_of_reservations, count_of_attentions}
@@ -12,14 +9,10 @@ use Rattle.pr_sets.specs.BitSets.{has}
 use Rattle.pr_sets.specs.Wides.{has_wide}
 use Rattle.pr_views.specs.declared.possibilities.Possibilities.{Possibilities}
 use Rattle.pr_views.specs.Views.{View}
-use Rattle.pr_views.specs.Portions.{has_at}
+use Rattle.pr_views.specs.Portions.{has_at, contains_at}
 
 abbrev pub scope_of : {S : Type 0} {sets : ViewSet S} → ℕ → ViewOf S sets → Scope
 scope_of own v = record { own = own; hosts = v.hosts; keys = v.keys.items }
-
--- n is a member of the set at this place of the list
-abbrev pub contains_at : {S : Type 0} → (S → Numbers) → List S → ℕ → ℕ → Bool
-contains_at members sets g n = option_map_or (λ s. set.contains (members s) n) (slice_get sets g) false
 
 -- the view of this owner
 abbrev pub view_of : {S : Type 0} {sets : ViewSet S} → ℕ → ViewOf S sets → View

@@ -33,8 +33,12 @@ pub record Table : Type 0 where
 
 -- ---- those that values of the program are
 
+-- views, each by its line, as this host has them
+abbrev pub views_of : {S : Type 0} {sets : ViewSet S} → ℕ → List (ℕ × ViewOf S sets) → List (ℕ × View)
+views_of host views = map (λ e. (e.0, view_of host e.1)) views
+
 abbrev pub outline_of : {S : Type 0} {sets : ViewSet S} → OutlineBy (ViewOf S sets) → Outline
-outline_of o = record { host = o.host; views = map (λ e. (e.0, view_of o.host e.1)) o.views.items }
+outline_of o = record { host = o.host; views = views_of o.host o.views.items }
 
 abbrev pub row_of : KeptRow → Row
 row_of r = record { command = r.command; tests = r.tests.items; permitted = r.permitted; arms = r.arms.items; unarmed = r.unarmed.items }

@@ -5,8 +5,7 @@ ghost use Rattle.std.specs.List.{All};
 ghost use Rattle.std.specs.FinSet as set;
 ghost use Rattle.pr_sets.specs.Numbers.{most};
 ghost use Rattle.pr_sets.specs.BitSets.{has, bit_set_size};
-ghost use Rattle.pr_views.specs.Portions.{has_at};
-ghost use Rattle.pr_views.specs.Rooms.{contains_at};
+ghost use Rattle.pr_views.specs.Portions.{contains_at, has_at};
 
 use pr_cdb::codes::MOST_NEXUSES;
 use pr_sets::{BitSet, ViewSet, Wide};
@@ -17,7 +16,7 @@ use std::array;
 pub(crate) fn empty_sets<S: ViewSet>(alloc: Global, size: u8) -> [S; MOST_NEXUSES]
     requires { size ≤ most }
     ensures room { All (λ s. S.room s ≡ size) result }
-    ensures members { All (λ s. S.members s ≡ set.empty) result }
+    ensures members { (g n : ℕ) → contains_at S.members result g n ≡ false }
 {
     array::from_fn(
         |_| -> S
@@ -51,6 +50,8 @@ pub(crate) fn sets_of<S: ViewSet>(
     ensures room { IfOk result (All (λ s. S.room s ≡ size)) }
     ensures members { IfOk result (λ sets. (g n : ℕ) → g < count
         → contains_at S.members sets g n ≡ has_at words.now g n) }
+    ensures past { IfOk result (λ sets. (g n : ℕ) → count ≤ g
+        → contains_at S.members sets g n ≡ false) }
 {
     let mut sets = empty_sets(alloc, size);
     for host in 0..count {

@@ -1,9 +1,10 @@
 //! Views.
 
-ghost use Rattle.std.specs.Prelude.{◌≡◌, ◌<◌, ◌≤◌, ◌+◌, ℕ, length};
+ghost use Rattle.std.specs.Prelude.{◌≡◌, ◌<◌, ◌≤◌, ◌+◌, ℕ, false, length};
 ghost use Rattle.std.specs.List.{All};
 ghost use Rattle.pr_cdb.specs.declared.codes.TheConstants.{MOST_NEXUSES};
 ghost use Rattle.pr_roles.specs.Fitting.{AreDeclared};
+ghost use Rattle.pr_views.specs.Portions.{contains_at};
 ghost use Rattle.pr_views.specs.Possibilities.{count_of_reservations, count_of_attentions};
 
 use crate::possibilities::Possibilities;
@@ -25,7 +26,7 @@ pub struct ViewOf<S: ViewSet> {
     /// How many nexuses there are.
     pub hosts: u8,
     /// For each nexus, its registrations: 0 for none, or the place of a declared key, from 1. The sets past
-    /// the nexuses that are there say nothing.
+    /// the nexuses that are there are empty.
     pub registrations: [S; MOST_NEXUSES],
     /// The reservations: 0 for none, then types 1, 3, 5, 6, each by its holder, then 7 and 8.
     pub reservations: S,
@@ -34,6 +35,7 @@ pub struct ViewOf<S: ViewSet> {
     pub ghost some: { 1 ≤ hosts },
     pub ghost few: { hosts ≤ MOST_NEXUSES },
     pub ghost declared: { AreDeclared keys.items },
+    pub ghost past: { (g n : ℕ) → hosts ≤ g → contains_at S.members registrations g n ≡ false },
     pub ghost room_of_registrations: { All (λ s. S.room s ≡ length keys.items + 1) registrations },
     pub ghost room_of_reservations: { S.room reservations ≡ count_of_reservations hosts },
     pub ghost room_of_pending: { S.room pending ≡ count_of_attentions },
@@ -49,7 +51,7 @@ pub const MOST_REGISTRATIONS: u8 = MOST_KEYS as u8 + 1;
 pub const ATTENTION_SETS: u8 = 16;
 
 impl<S: ViewSet> ViewOf<S> {
-    ghost use Rattle.std.specs.Prelude.{◌↔◌, ◌⊎◌, true, false, IsTrue, IfOk, OnOk, OnErr};
+    ghost use Rattle.std.specs.Prelude.{◌↔◌, ◌⊎◌, true, IsTrue, IfOk, OnOk, OnErr};
     ghost use Rattle.pr_views.specs.Possibilities.{Item};
     ghost use Rattle.pr_views.specs.Views.{IsPossible, Within};
     ghost use Rattle.pr_views.specs.Portions.{has_at, view_in};
@@ -122,6 +124,15 @@ impl<S: ViewSet> ViewOf<S> {
             reservations: self.reservations.wide(),
             pending: word_of(&self.pending),
         }
+    }
+
+    /// The same view by other sets. Where memory is refused, nothing is left behind.
+    pub fn in_sets<T: ViewSet>(&self, alloc: Global) -> Result<ViewOf<T>, AllocError>
+        ensures keys { IfOk result (λ v. v.keys.items ≡ self.now.keys.items) }
+        ensures hosts { IfOk result (λ v. v.hosts ≡ self.now.hosts) }
+        ensures same { IfOk result (λ v. (own : ℕ) → view_of own v ≡ view_of own self.now) }
+    {
+        ViewOf::of(alloc, &self.keys, self.hosts, &self.possibilities())
     }
 
     /// Adds what is possible in the other. Where memory is refused, the view stays as it was.

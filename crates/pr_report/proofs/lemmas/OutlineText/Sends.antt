@@ -11,7 +11,7 @@ use Rattle.pr_sets.specs.Numbers.{Numbers}
 use Rattle.pr_sets.specs.declared.view_set.ViewSet.{Ghosts as ViewSet}
 use Rattle.pr_views.specs.declared.view.ViewOf.{ViewOf}
 use Rattle.pr_views.specs.Views.{View}
-use Rattle.pr_views.specs.Rooms.{contains_at}
+use Rattle.pr_views.specs.Portions.{contains_at}
 use Rattle.pr_views.specs.declared.table.Row.{Row as KeptRow}
 use Rattle.pr_views.specs.Tables.{Table}
 use Rattle.pr_report.specs.OutlineText.{outlines_text}

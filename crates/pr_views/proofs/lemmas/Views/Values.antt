@@ -1,6 +1,7 @@
 -- What is possible in the view that a value of the program is.
-use Rattle.pr_views.proofs.Common.{◌≡◌, ℕ, ◌+◌, ◌<◌, ◌≤◌, true, false, ◌⊎◌, List, length, Some, None, Option, sym, refl, ap, ◌∙◌, subst, inl, inr, arith, slice_get, false≢true, cases_lt, has, contains-nobody, AreDeclared, has_at, Registration, Reservation, Attentions, contains_at, Fits}
+use Rattle.pr_views.proofs.Common.{◌≡◌, ℕ, ◌+◌, ◌<◌, ◌≤◌, Bool, true, false, ◌⊎◌, ◌↔◌, List, length, Some, None, Option, sym, refl, ap, ◌∙◌, subst, inl, inr, arith, slice_get, false≢true, cases_lt, has, contains-nobody, AreDeclared, has_at, Registration, Reservation, Attentions, contains_at, Fits}
 use Rattle.std.specs.FinSet as set
+use Rattle.std.specs.Prelude.{Result, Ok, Err, IfOk}
 use Rattle.std.specs.List.{All}
 use Rattle.std.specs.Option.{option_map_or}
 use Rattle.std.proofs.lemmas.Bool.{false_from_ne_true}
@@ -14,7 +15,7 @@ use Rattle.pr_views.specs.declared.possibilities.Possibilities.{Possibilities}
 use Rattle.pr_views.specs.Possibilities.{Item}
 use Rattle.pr_views.specs.Views.{View, IsPossible, Within}
 use Rattle.pr_views.specs.Portions.{view_in}
-use Rattle.pr_views.specs.Rooms.{view_of, AreInRange}
+use Rattle.pr_views.specs.Rooms.{scope_of, view_of, AreInRange}
 
 -- what holds of each element holds of one that is read
 read : {X : Type 0} (P : X → Type 0) (xs : List X) (i : ℕ) (x : X) → All P xs → slice_get xs i ≡ Some x → P x
@@ -104,3 +105,36 @@ module _ {S : Type 0} {sets : ViewSet S} where
     reservations = λ x is. subst (λ n. x < n) v.room_of_reservations (below v.reservations x is);
     pending = λ q is. subst (λ n. q < n) v.room_of_pending (below v.pending q is);
   }
+
+-- ---- views by any sets
+
+same_truth : (a b : Bool) → (a ≡ true → b ≡ true) → (b ≡ true → a ≡ true) → a ≡ b
+same_truth true b there back = sym (there refl)
+same_truth false b there back = sym (false_from_ne_true b (λ is. false≢true (back is)))
+
+-- those of as many nexuses and the same keys are the same where the same is possible in them
+pub same_view : {S T : Type 0} {sets : ViewSet S} {others : ViewSet T} (own : ℕ) (v : ViewOf S sets) (w : ViewOf T others) → v.keys.items ≡ w.keys.items → v.hosts ≡ w.hosts
+    → Within (view_of own v) (view_of own w) → Within (view_of own w) (view_of own v) → view_of own v ≡ view_of own w
+same_view {sets = sets} {others = others} own v w keys hosts there back = λ i. record {
+  scope = record { own = own; hosts = hosts i; keys = keys i };
+  registrations = λ g n. at g n (cases_lt g v.hosts) i;
+  reservations = λ x. same_truth (set.contains (sets.members v.reservations) x) (set.contains (others.members w.reservations) x) (there (Reservation x)) (back (Reservation x)) i;
+  pending = λ q. same_truth (set.contains (sets.members v.pending) q) (set.contains (others.members w.pending) q) (there (Attentions q)) (back (Attentions q)) i;
+}
+  where
+    at : (g n : ℕ) → (g < v.hosts) ⊎ (v.hosts ≤ g) → contains_at sets.members v.registrations g n ≡ contains_at others.members w.registrations g n
+    at g n (inl small) =
+        same_truth (contains_at sets.members v.registrations g n) (contains_at others.members w.registrations g n)
+        (λ is. (there (Registration g n) (small, is)).1) (λ is. (back (Registration g n) (subst (λ h. g < h) hosts small, is)).1)
+    at g n (inr late) = v.past g n late ∙ sym (w.past g n (subst (λ h. h ≤ g) hosts late))
+
+-- so it is of a view that was made of the possibilities of another, if it was made
+pub same_if_made : {S T E : Type 0} {sets : ViewSet S} {others : ViewSet T} (v : ViewOf S sets) (p : Possibilities) (r : Result (ViewOf T others) E)
+    → ((own : ℕ) (i : Item) → IsPossible (view_in (scope_of own v) p) i ↔ IsPossible (view_of own v) i) → IfOk r (λ w. w.keys.items ≡ v.keys.items) → IfOk r (λ w. w.hosts ≡ v.hosts)
+    → IfOk r (λ w. (own : ℕ) (i : Item) → IsPossible (view_of own w) i ↔ IsPossible (view_in (scope_of own w) p) i) → IfOk r (λ w. (own : ℕ) → view_of own w ≡ view_of own v)
+same_if_made v p (Ok w) words keys hosts made = λ own.
+    let scope : scope_of own w ≡ scope_of own v = λ i. record { own = own; hosts = hosts i; keys = keys i } in
+    same_view own w v keys hosts
+    (λ i is. (words own i).0 (subst (λ s. IsPossible (view_in s p) i) scope ((made own i).0 is)))
+    (λ i is. (made own i).1 (subst (λ s. IsPossible (view_in s p) i) (sym scope) ((words own i).1 is)))
+same_if_made v p (Err e) words keys hosts made = tt

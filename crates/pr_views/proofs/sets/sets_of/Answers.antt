@@ -1,6 +1,7 @@
 use Rattle.pr_views.proofs.Common.{◌≡◌, ◌∙◌, arith, has}
+use Rattle.std.specs.FinSet as set
 use Rattle.std.proofs.lemmas.List.Elements.{All-set}
-use Rattle.pr_views.proofs.lemmas.Rooms.Places.{holds_at-get_or}
+use Rattle.pr_views.proofs.lemmas.Rooms.Places.{holds_at-get_or, holds_at_kept}
 use Rattle.pr_views.proofs.lemmas.Rooms.Members.{sets_more}
 use Rattle.pr_views.proofs.sets.sets_of.Goals as goal
 
@@ -13,4 +14,6 @@ loop-host-preserved g c = record {
   room = All-set (λ s. g.S.ViewSet.room s ≡ c.args.size) c.loop-host.sets c.from-place.result c.in_ok-sets.field-0 c.in_ok-sets.ensures.room c.loop-host.invariant.room;
   members = sets_more g.S.ViewSet.members c.loop-host.sets c.args.words.now c.loop-host.host c.from-place.result c.in_ok-sets.field-0 (record { bits = 0 }) c.loop-host.invariant.members
       c.from-place.ensures (omega arith) (omega arith) c.in_ok-sets.ensures.members;
+  past = λ h n late. holds_at_kept (λ s. set.contains (g.S.ViewSet.members s) n) c.loop-host.sets c.from-place.result h c.in_ok-sets.field-0 (λ e. absurd (omega arith))
+      ∙ c.loop-host.invariant.past h n (omega arith);
 }
