@@ -1,11 +1,11 @@
 //! What a host can know at a send, in words.
 
+ghost use Rattle.std.specs.Prelude.{◌<◌};
+
 use pr_attention::Attention;
-use pr_cdb::codes::MOST_NEXUSES;
 use pr_output::{Token, WriteFault, put, put_spaced};
 use pr_roles::Nexus;
-use pr_sets::{ViewSet, WordSet};
-use pr_views::{ATTENTION_SETS, View, is_among, reservation_at};
+use pr_views::{ATTENTION_SETS, View, count_of_reservations, is_among, reservation_at};
 use pr_words::saying::{Part, name, say};
 use pr_words::{put_held, put_sense};
 use std::io::Write;
@@ -19,36 +19,33 @@ pub(crate) fn put_possible<W: Write>(
     view: &View,
 ) -> Result<(), WriteFault> {
     for (number, nexus) in nexuses.iter().enumerate() {
-        if let Some(registrations) = view.registrations.get(number) {
-            put_registrations(
-                writer,
-                nexus.name.as_str().as_bytes(),
-                &view.keys,
-                registrations,
-            )?;
+        if number < usize::from(view.hosts) {
+            put_registrations(writer, nexus.name.as_str().as_bytes(), view, number as u8)?;
         }
     }
     put_reservations(writer, nexuses, view)?;
-    put_waiting(writer, owner, &view.pending)
+    put_waiting(writer, owner, view)
 }
 
-// With what the nexus of this name may be registered: 0 stands for nothing, and each key for its place from 1 on.
+// With what the nexus of this name and number may be registered: 0 stands for nothing, and each key for its place from 1 on.
 fn put_registrations<W: Write>(
     writer: &mut W,
-    nexus: &[u8],
-    keys: &[u64],
-    registrations: &WordSet,
-) -> Result<(), WriteFault> {
-    say(writer, &[Part::Text(b" "), name(nexus)])?;
+    name_of_nexus: &[u8],
+    view: &View,
+    nexus: u8,
+) -> Result<(), WriteFault>
+    requires { nexus < view.now.hosts }
+{
+    say(writer, &[Part::Text(b" "), name(name_of_nexus)])?;
     let mut is_first = true;
-    if registrations.has(0) {
+    if view.has_registration(nexus, 0) {
         put(writer, b" is not registered")?;
         is_first = false;
     }
     let mut number: u8 = 0;
-    for key in keys {
+    for key in view.keys.iter() {
         number = number.saturating_add(1);
-        if registrations.has(number) {
+        if view.has_registration(nexus, number) {
             put_or(writer, is_first)?;
             put_spaced(writer, &[Token::Text(b"has"), Token::Key(*key)])?;
             is_first = false;
@@ -63,13 +60,10 @@ fn put_reservations<W: Write>(
     view: &View,
 ) -> Result<(), WriteFault> {
     let hosts = view.hosts;
-    if hosts == 0 || usize::from(hosts) > MOST_NEXUSES {
-        return Ok(());
-    }
     put(writer, b" ")?;
     let mut is_first = true;
-    for number in 0..hosts * 4 + 3 {
-        if view.reservations.has(number) {
+    for number in 0..count_of_reservations(hosts) {
+        if view.has_reservation(number) {
             put_or(writer, is_first)?;
             put(writer, b" ")?;
             put_held(writer, nexuses, reservation_at(hosts, number))?;
@@ -80,15 +74,11 @@ fn put_reservations<W: Write>(
 }
 
 // What may be pending for the host of this name, by the number of each set of attentions.
-fn put_waiting<W: Write>(
-    writer: &mut W,
-    owner: &[u8],
-    pending: &WordSet,
-) -> Result<(), WriteFault> {
+fn put_waiting<W: Write>(writer: &mut W, owner: &[u8], view: &View) -> Result<(), WriteFault> {
     put(writer, b" ")?;
     let mut is_first = true;
     for number in 0..ATTENTION_SETS {
-        if pending.has(number) {
+        if view.has_pending(number) {
             put_or(writer, is_first)?;
             put_attentions(writer, number)?;
             if is_first {

@@ -1,9 +1,9 @@
 -- The names that most proofs of this crate cite, passed on from one place. Declares nothing.
 pub use Rattle.std.proofs.Common.{◌≡◌, ℕ, ◌+◌, ◌-◌, ◌<◌, ◌≤◌, Bool, false, List, [], ◌∷◌, ◌++◌, map, length, take, drop, slice_get, Some, codes, filter, Option, Result, flat_map, sym, refl, ap, ◌∙◌, subst, append-nil, arith}
 pub use Rattle.std.specs.List.{range_with_len}
-pub use Rattle.pr_sets.specs.Kept.{numbers_of_bits}
 pub use Rattle.pr_registry.specs.declared.held.Held.{Held}
 pub use Rattle.pr_registry.specs.declared.held.Held.TheVariants.{One}
+pub use Rattle.pr_output.proofs.lemmas.Written.Fronts.{puts_err, front_first, puts_last, front_then, wrote_all, wrote_front, wrote_more}
 unfoldable pub use Rattle.pr_roles.specs.Scenarios.{scenario_of}
 pub use Rattle.pr_roles.specs.declared.parts.Parts.{Parts}
 pub use Rattle.pr_roles.specs.Keys.{key_at}

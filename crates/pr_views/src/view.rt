@@ -151,6 +151,28 @@ impl<S: ViewSet> ViewOf<S> {
         Ok(())
     }
 
+    /// Whether the nexus may have the registration of this number: none, by 0, or one by the key at this place, from 1.
+    pub fn has_registration(&self, nexus: u8, number: u8) -> bool
+        requires { nexus < self.now.hosts }
+        ensures { (own : ℕ) → result ≡ (view_of own self.now).registrations nexus number }
+    {
+        self.registrations[usize::from(nexus)].has(number)
+    }
+
+    /// Whether the reservation of this number may be there.
+    pub fn has_reservation(&self, number: u8) -> bool
+        ensures { (own : ℕ) → result ≡ (view_of own self.now).reservations number }
+    {
+        self.reservations.has(number)
+    }
+
+    /// Whether the attentions of this number may be all that are pending for the owner.
+    pub fn has_pending(&self, number: u8) -> bool
+        ensures { (own : ℕ) → result ≡ (view_of own self.now).pending number }
+    {
+        self.pending.has(number)
+    }
+
     /// Whether everything that is possible in the view is possible in the other.
     pub fn within(&self, other: &Self) -> bool
         requires alike { AreAlike self.now other.now }

@@ -1,20 +1,16 @@
 -- Outlines go out one send after another.
-use Rattle.pr_report.proofs.Common.{◌≡◌, ℕ, ◌+◌, ◌<◌, ◌≤◌, Bool, false, List, [], ◌∷◌, ◌++◌, map, length, take, drop, slice_get, Some, codes, filter, Option, Result, sym, refl, ap, ◌∙◌, subst, append-nil, range_with_len, scenario_of, Parts, key_at, view_of, row_of, free_or_key, sends_text, registration_line, send_text, joined_by_spaces, names_in, names_of, name_of, Wrote, FallsShort, Puts}
+use Rattle.pr_report.proofs.Common.{◌≡◌, ℕ, ◌+◌, ◌<◌, ◌≤◌, Bool, List, [], ◌∷◌, ◌++◌, map, length, take, drop, Some, codes, Option, Result, sym, refl, ap, ◌∙◌, subst, append-nil, range_with_len, scenario_of, Parts, key_at, view_of, row_of, free_or_key, sends_text, registration_line, send_text, joined_by_spaces, names_in, names_of, name_of, Wrote, FallsShort, Puts}
 use Rattle.std.specs.Bool.{OnFalse, OnTrue}
 use Rattle.std.specs.Result.{is_ok}
-use Rattle.std.specs.FinSet as set
-use Rattle.std.specs.Option.{option_map_or}
 use Rattle.std.proofs.lemmas.List.{take_at}
 use Rattle.std.proofs.Common.{get_or, Ok, Err, drop_of_length-le}
 use Rattle.pr_roles.specs.declared.parts.Nexus.{Nexus as NexusPart}
-use Rattle.pr_sets.specs.Numbers.{Numbers}
 use Rattle.pr_sets.specs.declared.view_set.ViewSet.{Ghosts as ViewSet}
 use Rattle.pr_views.specs.declared.view.ViewOf.{ViewOf}
 use Rattle.pr_views.specs.Views.{View}
-use Rattle.pr_views.specs.Portions.{contains_at}
 use Rattle.pr_views.specs.declared.table.Row.{Row as KeptRow}
 use Rattle.pr_views.specs.Tables.{Table}
-use Rattle.pr_report.specs.OutlineText.{outlines_text}
+use Rattle.pr_report.specs.OutlineText.{free_or_keys, outlines_text}
 use Rattle.pr_trace.proofs.lemmas.FrontsWritten.HeldLines.{held_front, held_more}
 use Rattle.pr_report.proofs.lemmas.WordsWritten.Possibilities.{line_pieces, shown}
 use Rattle.pr_trace.proofs.lemmas.TraceText.Lines.{drop_here, names_of_scenario}
@@ -25,39 +21,17 @@ line_and_view host e = (e.0, view_of host e.1)
 
 -- ---- the line of a host's or guest's registrations
 
-abbrev pub is_member : {S : Type 0} → (S → Numbers) → S → ℕ → Bool
-is_member members s n = set.contains (members s) n
-
--- the words of those registrations that are in a set
-abbrev pub key_words : {S : Type 0} → (S → Numbers) → List ℕ → S → List ℕ
-key_words members keys s = shown (λ r. free_or_key (key_at keys r)) (is_member members s) (range_with_len 0 (length keys + 1))
-
-own_set : {S : Type 0} (members : S → Numbers) (each : List S) (g : ℕ) (s : S) → slice_get each g ≡ Some s → contains_at members each g ≡ is_member members s
-own_set {S = S} members each g s at = ap (λ o. (λ (n : ℕ). option_map_or (λ (t : S). set.contains (members t) n) o false)) at
-
--- the words of those that the view has
-abbrev pub keys_of : {S : Type 0} {sets : ViewSet S} → ViewOf S sets → ℕ → List ℕ
-keys_of {sets = sets} v g = shown (λ r. free_or_key (key_at v.keys.items r)) (contains_at sets.members v.registrations g) (range_with_len 0 (length v.keys.items + 1))
+-- the words of those that are possible
+abbrev pub keys_of : View → ℕ → List ℕ
+keys_of v g = shown (λ r. free_or_key (key_at v.scope.keys r)) (v.registrations g) (range_with_len 0 (length v.scope.keys + 1))
 
 -- the pieces in which it goes out
-pub registration_begins : {S : Type 0} {sets : ViewSet S} (names : List (List ℕ)) (own : ℕ) (v : ViewOf S sets) (g : ℕ) (name : List ℕ) → name ≡ name_of names g
-    → registration_line names (view_of own v) g
-    ≡ codes " " ++ (joined_by_spaces (codes "registration" ∷ name ∷ []) ++ (keys_of v g ++ 10 ∷ []))
+pub registration_pieces : (names : List (List ℕ)) (v : View) (g : ℕ) (name : List ℕ) → name ≡ name_of names g
+    → registration_line names v g ≡ codes " " ++ (joined_by_spaces (codes "registration" ∷ name ∷ []) ++ (keys_of v g ++ 10 ∷ []))
 unfolding registration_line
-registration_begins {sets = sets} names own v g name called =
-    line_pieces (codes " ") (codes "registration" ∷ name_of names g ∷ [])
-    (map (λ r. free_or_key (key_at v.keys.items r)) (filter (contains_at sets.members v.registrations g) (range_with_len 0 (length v.keys.items + 1))))
+registration_pieces names v g name called =
+    line_pieces (codes " ") (codes "registration" ∷ name_of names g ∷ []) (free_or_keys v.scope.keys (v.registrations g))
     ∙ ap (λ n. codes " " ++ (joined_by_spaces (codes "registration" ∷ n ∷ []) ++ (keys_of v g ++ 10 ∷ []))) (sym called)
-
-pub registration_pieces : {S : Type 0} {sets : ViewSet S} (names : List (List ℕ)) (own : ℕ) (v : ViewOf S sets) (g : ℕ) (s : S) (keys name : List ℕ)
-    → slice_get v.registrations g ≡ Some s → keys ≡ v.keys.items → name ≡ name_of names g
-    → registration_line names (view_of own v) g
-    ≡ codes " " ++ (joined_by_spaces (codes "registration" ∷ name ∷ []) ++ (key_words sets.members keys s ++ 10 ∷ []))
-registration_pieces {sets = sets} names own v g s keys name at same called =
-    let begun = λ (rest : List ℕ). codes " " ++ (joined_by_spaces (codes "registration" ∷ name ∷ []) ++ (rest ++ 10 ∷ [])) in
-    registration_begins names own v g name called
-    ∙ (ap (λ p. begun (shown (λ r. free_or_key (key_at v.keys.items r)) p (range_with_len 0 (length v.keys.items + 1)))) (own_set sets.members v.registrations g s at)
-    ∙ ap (λ ks. begun (key_words sets.members ks s)) (sym same))
 
 -- ---- sends
 

@@ -1,11 +1,10 @@
 -- Words of what is possible go out one after another, and lines of what is numbered.
-use Rattle.pr_report.proofs.Common.{◌≡◌, ℕ, ◌+◌, ◌-◌, ◌<◌, ◌≤◌, Bool, false, List, [], ◌∷◌, ◌++◌, map, codes, filter, Option, Result, flat_map, sym, refl, ap, ◌∙◌, subst, append-nil, arith, range_with_len, joined_by_spaces, Wrote, FallsShort, Puts}
+use Rattle.pr_report.proofs.Common.{◌≡◌, ℕ, ◌+◌, ◌-◌, ◌<◌, ◌≤◌, Bool, false, List, [], ◌∷◌, ◌++◌, map, codes, filter, Option, Result, flat_map, sym, refl, ap, ◌∙◌, subst, append-nil, arith, range_with_len, joined_by_spaces, Wrote, FallsShort, Puts, wrote_all, wrote_front, wrote_more}
 use Rattle.std.proofs.lemmas.Grind.{flat_map-append}
 use Rattle.std.proofs.lemmas.List.{map-append}
 use Rattle.std.proofs.lemmas.List.Elements.{filter-append}
 use Rattle.std.proofs.Common.{suc, true, cond, if◌then◌else◌, append_assoc}
 use Rattle.std.specs.Io.KnownBytes.{Appends}
-use Rattle.pr_output.proofs.lemmas.Written.Fronts.{wrote_all, wrote_front, wrote_more}
 unfoldable use Rattle.pr_output.specs.PrintedLines.{line}
 
 -- ---- words of a line

@@ -1,5 +1,4 @@
-use Rattle.pr_report.proofs.Common.{◌∙◌}
-use Rattle.pr_output.proofs.lemmas.Written.Fronts.{front_first}
+use Rattle.pr_report.proofs.Common.{◌∙◌, front_first}
 use Rattle.pr_trace.proofs.lemmas.FrontsWritten.HeldLines.{held_all, held_err, held_next, held_none}
 use Rattle.pr_report.proofs.outline.add_send.Goals as goal
 

@@ -1,5 +1,4 @@
-use Rattle.pr_report.proofs.Common.{codes}
-use Rattle.pr_output.proofs.lemmas.Written.Fronts.{front_first, puts_err, puts_last}
+use Rattle.pr_report.proofs.Common.{codes, front_first, puts_err, puts_last}
 use Rattle.pr_report.proofs.outline.begin_item.Goals as goal
 
 pub returns-in_err-put : goal.returns-in_err-put

@@ -1,6 +1,5 @@
 -- The beginning of the line, what the arm asks, and the end of the line.
-use Rattle.pr_report.proofs.Common.{[], ◌∷◌, codes, printed_word}
-use Rattle.pr_output.proofs.lemmas.Written.Fronts.{front_first, front_then, puts_err, puts_last}
+use Rattle.pr_report.proofs.Common.{[], ◌∷◌, codes, printed_word, front_first, front_then, puts_err, puts_last}
 use Rattle.pr_report.specs.ScenarioWords.{test_words}
 use Rattle.pr_report.proofs.lemmas.WordsWritten.Possibilities.{line_pieces, puts_as}
 use Rattle.pr_report.proofs.outline.put_arm.Goals as goal

@@ -1,6 +1,6 @@
-use Rattle.pr_report.proofs.Common.{ℕ, slice_get}
+use Rattle.pr_report.proofs.Common.{ℕ, slice_get, puts_err, wrote_all, wrote_front, wrote_more}
 use Rattle.pr_report.specs.OutlineText.{arm_text}
-use Rattle.pr_output.proofs.lemmas.Written.Fronts.{flat_map_end, flat_map_from, puts_err, wrote_all, wrote_front, wrote_more}
+use Rattle.pr_output.proofs.lemmas.Written.Fronts.{flat_map_end, flat_map_from}
 use Rattle.pr_report.proofs.outline.put_arms.Goals as goal
 
 pub returns-in_err-put_arm : goal.returns-in_err-put_arm

@@ -1,8 +1,7 @@
-use Rattle.pr_report.proofs.Common.{[], ◌∷◌, codes, printed_word}
+use Rattle.pr_report.proofs.Common.{[], ◌∷◌, codes, printed_word, front_first, front_then, puts_err, puts_last}
 use Rattle.std.proofs.Common.{decimal}
 use Rattle.pr_report.specs.ScenarioWords.{command_words}
 use Rattle.pr_report.specs.OutlineText.{send_line}
-use Rattle.pr_output.proofs.lemmas.Written.Fronts.{front_first, front_then, puts_err, puts_last}
 use Rattle.pr_report.proofs.lemmas.WordsWritten.Possibilities.{line_pieces}
 use Rattle.pr_report.proofs.outline.put_command_line.Goals as goal
 

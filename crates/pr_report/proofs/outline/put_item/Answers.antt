@@ -1,5 +1,4 @@
-use Rattle.pr_report.proofs.Common.{[], ◌∷◌, map, codes, printed_word}
-use Rattle.pr_output.proofs.lemmas.Written.Fronts.{front_first, front_then, puts_err, puts_last}
+use Rattle.pr_report.proofs.Common.{[], ◌∷◌, map, codes, printed_word, front_first, front_then, puts_err, puts_last}
 use Rattle.pr_report.proofs.lemmas.WordsWritten.Possibilities.{line_pieces, puts_as}
 use Rattle.pr_report.proofs.outline.put_item.Goals as goal
 

@@ -1,5 +1,4 @@
-use Rattle.pr_report.proofs.Common.{[], ◌∷◌, map, codes, printed_word}
-use Rattle.pr_output.proofs.lemmas.Written.Fronts.{front_first, puts_err, puts_last}
+use Rattle.pr_report.proofs.Common.{[], ◌∷◌, map, codes, printed_word, front_first, puts_err, puts_last}
 use Rattle.pr_report.proofs.lemmas.WordsWritten.Possibilities.{puts_as, spaced_both}
 use Rattle.pr_report.proofs.outline.put_out.Goals as goal
 

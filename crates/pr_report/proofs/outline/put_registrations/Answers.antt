@@ -1,5 +1,4 @@
-use Rattle.pr_report.proofs.Common.{view_of, registration_line, names_of}
-use Rattle.pr_output.proofs.lemmas.Written.Fronts.{puts_err}
+use Rattle.pr_report.proofs.Common.{view_of, registration_line, names_of, puts_err}
 use Rattle.pr_report.proofs.lemmas.WordsWritten.Possibilities.{each_end, each_front, each_more, range_here, range_end}
 use Rattle.pr_report.proofs.outline.put_registrations.Goals as goal
 

@@ -1,5 +1,5 @@
+use Rattle.pr_report.proofs.Common.{front_first, front_then, puts_err, puts_last}
 use Rattle.pr_report.specs.OutlineText.{replies_text}
-use Rattle.pr_output.proofs.lemmas.Written.Fronts.{front_first, front_then, puts_err, puts_last}
 use Rattle.pr_report.proofs.outline.put_replies.Goals as goal
 
 pub returns-in_err-put_permitted : goal.returns-in_err-put_permitted

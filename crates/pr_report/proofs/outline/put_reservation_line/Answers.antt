@@ -1,6 +1,5 @@
-use Rattle.pr_report.proofs.Common.{[], ◌∷◌, map, codes, view_of, printed_word, names_of, held_word}
+use Rattle.pr_report.proofs.Common.{[], ◌∷◌, map, codes, view_of, printed_word, names_of, held_word, front_first, front_then, puts_err, puts_last}
 use Rattle.pr_report.specs.OutlineText.{possible_of, reservation_line, reservations}
-use Rattle.pr_output.proofs.lemmas.Written.Fronts.{front_first, front_then, puts_err, puts_last}
 use Rattle.pr_report.proofs.lemmas.WordsWritten.Possibilities.{line_pieces, puts_as}
 use Rattle.pr_report.proofs.outline.put_reservation_line.Goals as goal
 

@@ -1,5 +1,4 @@
-use Rattle.pr_report.proofs.Common.{send_text}
-use Rattle.pr_output.proofs.lemmas.Written.Fronts.{front_first, front_then, puts_err, puts_last}
+use Rattle.pr_report.proofs.Common.{send_text, front_first, front_then, puts_err, puts_last}
 use Rattle.pr_report.proofs.outline.put_send.Goals as goal
 
 pub returns-in_err-put_command_line : goal.returns-in_err-put_command_line

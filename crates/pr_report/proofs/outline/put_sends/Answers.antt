@@ -1,5 +1,4 @@
-use Rattle.pr_report.proofs.Common.{◌≤◌, map, length, subst, row_of, sends_text, names_of}
-use Rattle.pr_output.proofs.lemmas.Written.Fronts.{puts_err}
+use Rattle.pr_report.proofs.Common.{◌≤◌, map, length, subst, row_of, sends_text, names_of, puts_err}
 use Rattle.pr_trace.proofs.lemmas.FrontsWritten.HeldLines.{held_first, held_last}
 use Rattle.pr_report.proofs.lemmas.OutlineText.Sends.{line_and_view, sends_end, sends_front, sends_more}
 use Rattle.pr_report.proofs.outline.put_sends.Goals as goal

@@ -1,6 +1,5 @@
-use Rattle.pr_report.proofs.Common.{printed_word}
+use Rattle.pr_report.proofs.Common.{printed_word, front_first, puts_err, puts_last}
 use Rattle.pr_report.specs.OutlineText.{table_text}
-use Rattle.pr_output.proofs.lemmas.Written.Fronts.{front_first, puts_err, puts_last}
 use Rattle.pr_report.proofs.outline.put_table.Goals as goal
 
 pub returns-in_err-put_line : goal.returns-in_err-put_line

@@ -1,7 +1,6 @@
-use Rattle.pr_report.proofs.Common.{map, ap, names_of}
+use Rattle.pr_report.proofs.Common.{map, ap, names_of, puts_err}
 use Rattle.pr_views.specs.Tables.{table_of}
 use Rattle.pr_report.specs.OutlineText.{table_text}
-use Rattle.pr_output.proofs.lemmas.Written.Fronts.{puts_err}
 use Rattle.pr_report.proofs.lemmas.WordsWritten.Possibilities.{each_front, each_more}
 use Rattle.pr_trace.proofs.lemmas.TraceText.Lines.{drop_here}
 use Rattle.pr_report.proofs.outline.put_tables.Goals as goal

@@ -1,5 +1,6 @@
+use Rattle.pr_report.proofs.Common.{puts_err, wrote_all, wrote_front, wrote_more}
 use Rattle.pr_report.specs.OutlineText.{unarmed_line}
-use Rattle.pr_output.proofs.lemmas.Written.Fronts.{flat_map_end, flat_map_from, puts_err, wrote_all, wrote_front, wrote_more}
+use Rattle.pr_output.proofs.lemmas.Written.Fronts.{flat_map_end, flat_map_from}
 use Rattle.pr_report.proofs.outline.put_unarmed.Goals as goal
 
 pub returns-in_err-put_unarmed_line : goal.returns-in_err-put_unarmed_line
