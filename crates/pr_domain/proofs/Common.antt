@@ -1,6 +1,6 @@
 -- The names that most proofs of this crate cite, passed on from one place. Declares nothing.
 pub use Rattle.std.proofs.Common.{◌≡◌, ℕ, zero, suc, ◌+◌, ◌-◌, ◌*◌, ◌<◌, ◌≤◌, Bool, true, false, not, ◌&&◌, ◌||◌, ◌≢◌, ◌⊎◌, ◌↔◌, List, [], ◌∷◌, map, length, get_or, take, is_some, IfSome, IfNone, if◌then◌else◌, IsTrue, nat_lt, ◌==◌, slice_get, slice_set, Some, None, All, Contains, Option, option_map, sym, refl, ap, ◌∙◌, subst, inl, inr, arith, lit<, rules}
-pub use Rattle.std.specs.List.{list_any, list_all}
+pub use Rattle.std.specs.List.{list_any, list_all, AllZip}
 pub use Rattle.std.specs.Option.{option_map_or}
 pub use Rattle.std.proofs.lemmas.Bool.{false≢true, not-true, cases_lt, and_parts, cases_order, cases_eq, or_cases, and_from, or_left, or_right, eq-eqb, eqb-true}
 pub use Rattle.std.proofs.lemmas.Bool.Decides.{eqb_tells, nat_tests}
@@ -25,7 +25,7 @@ pub use Rattle.pr_unit.specs.Demands.{is_refused}
 pub use Rattle.pr_unit.specs.Replies.{good, check, conflict, report, data_of}
 pub use Rattle.pr_unit.specs.Steps.{Step}
 pub use Rattle.pr_unit.specs.UnitStates.{UnitState, is_pending, is_any_pending, IsWellFormed, effect, after_report}
-pub use Rattle.pr_script.specs.Grammar.{is_written_key, is_written, test_fits}
+pub use Rattle.pr_script.specs.Grammar.{is_written, test_fits}
 pub use Rattle.pr_script.specs.Takes.{matches}
 pub use Rattle.pr_script.specs.declared.script.Test.{Test}
 pub use Rattle.pr_script.specs.declared.landing.Class.{Class}
@@ -55,12 +55,13 @@ pub use Rattle.pr_regions.specs.declared.region.Reading.{Reading}
 pub use Rattle.pr_regions.specs.declared.region.Region.{Region}
 pub use Rattle.pr_regions.specs.declared.region.Transition.{Transition}
 pub use Rattle.pr_regions.proofs.lemmas.Portions.GatheredStates.{same_reservation}
+pub use Rattle.pr_regions.proofs.lemmas.Showing.AlikeViews.{IsSame}
 pub use Rattle.pr_domain.specs.Landings.{IsClass, IsLanding}
 pub use Rattle.pr_domain.specs.declared.reporting.Unserved.{Unserved}
 pub use Rattle.pr_domain.specs.declared.tally.Tally.{Tally}
 pub use Rattle.pr_domain.specs.inside.Beginning.{may_have, has_reservation, AreAlternatives}
-pub use Rattle.pr_domain.specs.inside.Reporting.{AreReported, HasOutcome, AreKept, AreMore, Ending, Reports, Conflicts, Fails, EndsGood, Refuses, refusal, Ends, landing_at, LandsBy, LandsGoodBelow, IsOfWay}
-pub use Rattle.pr_domain.specs.inside.Sendings.{view_of_sending, IsOfWayAt, LandsOf}
+pub use Rattle.pr_domain.specs.inside.Reporting.{AreReported, HasOutcome, AreKept, AreMore, HasWords, Ending, Reports, Conflicts, Fails, EndsGood, Refuses, refusal, MayReport, Ends, landing_at, LandsBy, LandsSomehow, LandsGoodBelow, IsOfWay}
+pub use Rattle.pr_domain.specs.inside.Sendings.{scope_of_sending, view_of_sending, IsOfWayAt, LandsOf}
 pub use Rattle.pr_domain.specs.inside.Tallies.{IsRegistered, has_part, has_tallied, arm_of, Leaves, IsFound, Grows, IsRight, IsTally, OneBelow, IsOfPlace, IsInOne, HasBoth, HasOneOf, IsUnder, IsReserved, IsOwners, scope_at, IsOfScope, IsReadAt, IsReadFirst}
 pub use Rattle.pr_views.specs.declared.view.TheConstants.{ATTENTION_SETS, MOST_REGISTRATIONS}
 pub use Rattle.pr_script.specs.declared.limits.TheConstants.{MOST_ARMS}

@@ -1,11 +1,12 @@
 //! What a host's own command may come to.
 
 ghost use Rattle.std.specs.Prelude.{◌≡◌, ◌<◌, ◌≤◌, true, length, map, IfOk, IsTrue};
-ghost use Rattle.std.specs.List.{All};
+ghost use Rattle.std.specs.List.{All, AllZip};
 ghost use Rattle.pr_script.specs.declared.limits.TheConstants.{MOST_ARMS};
 ghost use Rattle.pr_script.specs.Grammar.{is_written, test_fits};
-ghost use Rattle.pr_views.specs.Rooms.{view_of, AreAlike};
+ghost use Rattle.pr_views.specs.Rooms.{view_of, AreAlike, AreInRange};
 ghost use Rattle.pr_domain.specs.Outcomes.{AreOutcomes};
+ghost use Rattle.pr_domain.specs.inside.Reporting.{HasWords};
 
 use crate::reporting::Sending;
 use crate::tallying::tally;
@@ -14,7 +15,7 @@ use pr_cdb::{Command, in_range};
 use pr_roles::Refusals;
 use pr_script::{Landing, Test};
 use pr_sets::ViewSet;
-use pr_views::ViewOf;
+use pr_views::{Possibilities, ViewOf};
 use std::alloc::{AllocError, Global};
 
 /// What a host's own command may come to in the states that its view shows: each landing with the view of the states
@@ -53,6 +54,24 @@ pub fn outcomes<S: ViewSet>(
         tally: &tally,
         refusals,
     };
-    let outcomes = sending.outcomes(alloc)?;
+    let found = sending.outcomes(alloc)?;
+    let outcomes = as_views(alloc, view, &found)?;
     Ok(outcomes)
+}
+
+// The outcomes with views like this one in place of words.
+fn as_views<S: ViewSet>(
+    alloc: Global,
+    view: &ViewOf<S>,
+    found: &[(Landing, Possibilities)],
+) -> Result<Vec<(Landing, ViewOf<S>)>, AllocError>
+    requires range { All (λ f. AreInRange view.now.hosts view.now.keys.items f.1) found.now }
+    ensures { IfOk result (λ views. AllZip (HasWords view.now) found.now views.items) }
+{
+    let mut views = Vec::new(alloc);
+    for (landing, possibilities) in found {
+        let left = ViewOf::of(alloc, &view.keys, view.hosts, possibilities)?;
+        views.push((*landing, left))?;
+    }
+    Ok(views)
 }

@@ -2,7 +2,6 @@
 
 ghost use Rattle.std.specs.Prelude.{◌≡◌, ◌<◌, ◌≤◌, ℕ, true, List, Some};
 ghost use Rattle.std.specs.List.{All, slice_get};
-ghost use Rattle.pr_cdb.specs.declared.codes.TheConstants.{MOST_NEXUSES};
 ghost use Rattle.pr_cdb.specs.declared.reply.Sense.{Sense};
 ghost use Rattle.pr_attention.specs.Attentions.{code_of};
 ghost use Rattle.pr_cdb.specs.declared.wire.Request.TheVariants.{Plain};
@@ -12,11 +11,9 @@ ghost use Rattle.pr_script.specs.declared.script.Test.{Test};
 ghost use Rattle.pr_script.specs.Grammar.{is_written, test_fits};
 ghost use Rattle.pr_unit.specs.Conduct.{command_fault};
 ghost use Rattle.pr_unit.specs.Replies.{report};
-ghost use Rattle.pr_views.specs.Portions.{view_in};
 ghost use Rattle.pr_domain.specs.Landings.{IsClass};
 ghost use Rattle.pr_domain.specs.declared.tally.TheConstants.{WAYS};
-ghost use Rattle.pr_domain.specs.inside.Reporting.{AreBlind, AreMore, AreCalm, AreQuiet, Reports, Conflicts, Fails, EndsGood, Refuses, refusal, IsLater};
-ghost use Rattle.pr_domain.specs.inside.Tallies.{IsTally, scope_at};
+ghost use Rattle.pr_domain.specs.inside.Reporting.{AreKept, AreBlind, AreMore, AreCalm, AreQuiet, Reports, Conflicts, Fails, EndsGood, Refuses, refusal, IsLater};
 
 use crate::arms::landing_of;
 use crate::attentions::{after_report, those_without};
@@ -32,9 +29,9 @@ use pr_cdb::{Command, Sense};
 use pr_roles::Refusals;
 use pr_script::limits::MOST_ARMS;
 use pr_script::{Class, Landing};
-use pr_sets::{BitSet, ViewSet};
+use pr_sets::BitSet;
 use pr_unit::illegal;
-use pr_views::{Possibilities, ViewOf};
+use pr_views::Possibilities;
 use std::alloc::{AllocError, Global};
 
 // How the report of an attention ends.
@@ -101,7 +98,8 @@ impl Tally {
     }
 }
 
-/// A command whose outcomes are to be found, and what is known of the states from which it is sent.
+/// A command whose outcomes are to be found, and what is known of the states from which it is sent. Contracts alone
+/// read how many hosts there are, and which of them sends it.
 #[derive(Clone, Copy)]
 pub(crate) struct Sending<'a> {
     pub(crate) asked: TestedCommand<'a>,
@@ -110,50 +108,39 @@ pub(crate) struct Sending<'a> {
     pub(crate) known: Possibilities,
     pub(crate) tally: &'a Tally,
     pub(crate) refusals: Refusals,
-    ghost some: { 1 ≤ hosts },
-    ghost few: { hosts ≤ MOST_NEXUSES },
     ghost there: { sender < hosts },
-    ghost tallied: { ∥ IsTally (view_in (scope_at asked.keys.now hosts sender) known)
-        asked.command asked.tests.now tally.now ∥₁ },
 }
 
 impl Sending<'_> {
     ghost use Rattle.std.specs.Prelude.{IfOk, OnOk};
     ghost use Rattle.pr_attention.specs.declared.attention.Attention.TheVariants.{PowerOn};
-    ghost use Rattle.pr_domain.specs.inside.Sendings.{AreKeptFor, IsInRange, IsOfWayAt, Adds, AddsGood, AddsIf, AreOutcomesOf};
+    ghost use Rattle.pr_domain.specs.inside.Sendings.{scope_of_sending, IsOfWayAt, Adds, AddsGood, AddsIf, AreOutcomesOf};
 
     // Adds what one way to end leaves, beside these attentions.
-    fn add<S: ViewSet>(
+    fn add(
         &self,
-        alloc: Global,
-        outcomes: &mut Vec<(Landing, ViewOf<S>)>,
+        outcomes: &mut Vec<(Landing, Possibilities)>,
         landing: Landing,
         way: &Possibilities,
         pending: BitSet,
     ) -> Result<(), AllocError>
-        requires range { IsInRange self.now way.now pending }
-        requires kept { AreKeptFor self.now outcomes.old.items }
-        ensures kept { OnOk result (AreKeptFor self.now outcomes.new.items) }
-        ensures more { OnOk result (AreMore self.now.sender outcomes.old.items
+        requires kept { AreKept outcomes.old.items }
+        ensures kept { OnOk result (AreKept outcomes.new.items) }
+        ensures more { OnOk result (AreMore (scope_of_sending self.now) outcomes.old.items
             (IsOfWayAt self.now landing way.now pending) outcomes.new.items) }
     {
         if way.reservations.is_empty() || pending.is_empty() {
             return Ok(());
         }
         let found = Possibilities { pending, ..*way };
-        let view = ViewOf::of(alloc, self.asked.keys, self.hosts, &found)?;
-        put(alloc, outcomes, landing, view)?;
+        put(outcomes, landing, found)?;
         Ok(())
     }
 
     // Adds where the report of a power on lands.
-    fn add_power_on<S: ViewSet>(
-        &self,
-        alloc: Global,
-        outcomes: &mut Vec<(Landing, ViewOf<S>)>,
-    ) -> Result<(), AllocError>
-        requires kept { AreKeptFor self.now outcomes.old.items }
-        ensures kept { OnOk result (AreKeptFor self.now outcomes.new.items) }
+    fn add_power_on(&self, outcomes: &mut Vec<(Landing, Possibilities)>) -> Result<(), AllocError>
+        requires kept { AreKept outcomes.old.items }
+        ensures kept { OnOk result (AreKept outcomes.new.items) }
         ensures more { OnOk result (Adds self.now (Reports PowerOn) outcomes.old.items
             outcomes.new.items) }
     {
@@ -163,54 +150,48 @@ impl Sending<'_> {
         let mut way = self.tally.way(0);
         way.join(&self.tally.way(1));
         let pending = after_report(self.known.pending, Attention::PowerOn);
-        self.add(alloc, outcomes, landing, &way, pending)?;
+        self.add(outcomes, landing, &way, pending)?;
         Ok(())
     }
 
     // Adds where the report of another attention lands.
-    fn add_report<S: ViewSet>(
+    fn add_report(
         &self,
-        alloc: Global,
-        outcomes: &mut Vec<(Landing, ViewOf<S>)>,
+        outcomes: &mut Vec<(Landing, Possibilities)>,
         attention: Attention,
     ) -> Result<(), AllocError>
         requires later { IsLater attention }
-        requires kept { AreKeptFor self.now outcomes.old.items }
-        ensures kept { OnOk result (AreKeptFor self.now outcomes.new.items) }
+        requires kept { AreKept outcomes.old.items }
+        ensures kept { OnOk result (AreKept outcomes.new.items) }
         ensures more { OnOk result (Adds self.now (Reports attention) outcomes.old.items
             outcomes.new.items) }
     {
         let class = class_of_report(&self.asked.command, attention);
         let landing = landing_of(self.asked.tests, class);
         let pending = after_report(self.calm(), attention);
-        self.add(alloc, outcomes, landing, &self.tally.way(1), pending)?;
+        self.add(outcomes, landing, &self.tally.way(1), pending)?;
         Ok(())
     }
 
     // Adds where a conflict lands.
-    fn add_conflict<S: ViewSet>(
-        &self,
-        alloc: Global,
-        outcomes: &mut Vec<(Landing, ViewOf<S>)>,
-    ) -> Result<(), AllocError>
-        requires kept { AreKeptFor self.now outcomes.old.items }
-        ensures kept { OnOk result (AreKeptFor self.now outcomes.new.items) }
+    fn add_conflict(&self, outcomes: &mut Vec<(Landing, Possibilities)>) -> Result<(), AllocError>
+        requires kept { AreKept outcomes.old.items }
+        ensures kept { OnOk result (AreKept outcomes.new.items) }
         ensures more { OnOk result (Adds self.now Conflicts outcomes.old.items outcomes.new.items) }
     {
         let landing = landing_of(self.asked.tests, Class::Conflict);
-        self.add(alloc, outcomes, landing, &self.tally.way(0), self.calm())?;
+        self.add(outcomes, landing, &self.tally.way(0), self.calm())?;
         Ok(())
     }
 
     // Adds where BUSY lands, or TASK SET FULL.
-    fn add_refusal<S: ViewSet>(
+    fn add_refusal(
         &self,
-        alloc: Global,
-        outcomes: &mut Vec<(Landing, ViewOf<S>)>,
+        outcomes: &mut Vec<(Landing, Possibilities)>,
         refused: Unserved,
     ) -> Result<(), AllocError>
-        requires kept { AreKeptFor self.now outcomes.old.items }
-        ensures kept { OnOk result (AreKeptFor self.now outcomes.new.items) }
+        requires kept { AreKept outcomes.old.items }
+        ensures kept { OnOk result (AreKept outcomes.new.items) }
         ensures more { OnOk result (Adds self.now (Refuses refused) outcomes.old.items
             outcomes.new.items) }
     {
@@ -219,58 +200,52 @@ impl Sending<'_> {
         // The state stays: what is so of it is what is so with a conflict or without one.
         let mut way = self.tally.way(0);
         way.join(&self.tally.way(1));
-        self.add(alloc, outcomes, landing, &way, self.known.pending)?;
+        self.add(outcomes, landing, &way, self.known.pending)?;
         Ok(())
     }
 
     // Adds it where the sender may meet it.
-    fn add_declared<S: ViewSet>(
+    fn add_declared(
         &self,
-        alloc: Global,
-        outcomes: &mut Vec<(Landing, ViewOf<S>)>,
+        outcomes: &mut Vec<(Landing, Possibilities)>,
         declared: bool,
         refused: Unserved,
     ) -> Result<(), AllocError>
-        requires kept { AreKeptFor self.now outcomes.old.items }
-        ensures kept { OnOk result (AreKeptFor self.now outcomes.new.items) }
+        requires kept { AreKept outcomes.old.items }
+        ensures kept { OnOk result (AreKept outcomes.new.items) }
         ensures more { OnOk result (AddsIf self.now declared refused outcomes.old.items
             outcomes.new.items) }
     {
         if !declared {
             return Ok(());
         }
-        self.add_refusal(alloc, outcomes, refused)?;
+        self.add_refusal(outcomes, refused)?;
         Ok(())
     }
 
     // Adds where a fault lands.
-    fn add_fault<S: ViewSet>(
-        &self,
-        alloc: Global,
-        outcomes: &mut Vec<(Landing, ViewOf<S>)>,
-    ) -> Result<(), AllocError>
-        requires kept { AreKeptFor self.now outcomes.old.items }
-        ensures kept { OnOk result (AreKeptFor self.now outcomes.new.items) }
+    fn add_fault(&self, outcomes: &mut Vec<(Landing, Possibilities)>) -> Result<(), AllocError>
+        requires kept { AreKept outcomes.old.items }
+        ensures kept { OnOk result (AreKept outcomes.new.items) }
         ensures more { OnOk result (Adds self.now Fails outcomes.old.items outcomes.new.items) }
     {
         let Some(sense) = fault_of(&self.asked.command) else {
             return Ok(());
         };
         let landing = landing_of(self.asked.tests, Class::Sense(sense));
-        self.add(alloc, outcomes, landing, &self.tally.way(2), self.quiet())?;
+        self.add(outcomes, landing, &self.tally.way(2), self.quiet())?;
         Ok(())
     }
 
     // Adds where GOOD lands whose data this arm takes, counted from 1, or no arm.
-    fn add_good<S: ViewSet>(
+    fn add_good(
         &self,
-        alloc: Global,
-        outcomes: &mut Vec<(Landing, ViewOf<S>)>,
+        outcomes: &mut Vec<(Landing, Possibilities)>,
         arm: usize,
     ) -> Result<(), AllocError>
         requires there { arm ≤ MOST_ARMS }
-        requires kept { AreKeptFor self.now outcomes.old.items }
-        ensures kept { OnOk result (AreKeptFor self.now outcomes.new.items) }
+        requires kept { AreKept outcomes.old.items }
+        ensures kept { OnOk result (AreKept outcomes.new.items) }
         ensures more { OnOk result (AddsGood self.now arm outcomes.old.items outcomes.new.items) }
     {
         let landing = if arm == 0 {
@@ -278,50 +253,40 @@ impl Sending<'_> {
         } else {
             Landing::Arm(arm - 1)
         };
-        self.add(
-            alloc,
-            outcomes,
-            landing,
-            &self.tally.way(3 + arm),
-            self.quiet(),
-        )?;
+        self.add(outcomes, landing, &self.tally.way(3 + arm), self.quiet())?;
         Ok(())
     }
 
     // Adds where GOOD lands.
-    fn add_all_good<S: ViewSet>(
-        &self,
-        alloc: Global,
-        outcomes: &mut Vec<(Landing, ViewOf<S>)>,
-    ) -> Result<(), AllocError>
-        requires kept { AreKeptFor self.now outcomes.old.items }
-        ensures kept { OnOk result (AreKeptFor self.now outcomes.new.items) }
+    fn add_all_good(&self, outcomes: &mut Vec<(Landing, Possibilities)>) -> Result<(), AllocError>
+        requires kept { AreKept outcomes.old.items }
+        ensures kept { OnOk result (AreKept outcomes.new.items) }
         ensures more { OnOk result (Adds self.now EndsGood outcomes.old.items outcomes.new.items) }
     {
         for arm in 0..MOST_ARMS + 1 {
-            self.add_good(alloc, outcomes, arm)?;
+            self.add_good(outcomes, arm)?;
         }
         Ok(())
     }
 
     /// The outcomes.
-    pub(crate) fn outcomes<S: ViewSet>(
+    pub(crate) fn outcomes(
         &self,
         alloc: Global,
-    ) -> Result<Vec<(Landing, ViewOf<S>)>, AllocError>
+    ) -> Result<Vec<(Landing, Possibilities)>, AllocError>
         ensures outcomes { IfOk result (λ outcomes. AreOutcomesOf self.now outcomes.items) }
-        ensures kept { IfOk result (λ outcomes. AreKeptFor self.now outcomes.items) }
+        ensures kept { IfOk result (λ outcomes. AreKept outcomes.items) }
     {
         let mut outcomes = Vec::new(alloc);
-        self.add_all_good(alloc, &mut outcomes)?;
-        self.add_conflict(alloc, &mut outcomes)?;
-        self.add_power_on(alloc, &mut outcomes)?;
-        self.add_report(alloc, &mut outcomes, Attention::ReservationsPreempted)?;
-        self.add_report(alloc, &mut outcomes, Attention::ReservationsReleased)?;
-        self.add_report(alloc, &mut outcomes, Attention::RegistrationsPreempted)?;
-        self.add_fault(alloc, &mut outcomes)?;
-        self.add_declared(alloc, &mut outcomes, self.refusals.busy, Unserved::Busy)?;
-        self.add_declared(alloc, &mut outcomes, self.refusals.full, Unserved::Full)?;
+        self.add_all_good(&mut outcomes)?;
+        self.add_conflict(&mut outcomes)?;
+        self.add_power_on(&mut outcomes)?;
+        self.add_report(&mut outcomes, Attention::ReservationsPreempted)?;
+        self.add_report(&mut outcomes, Attention::ReservationsReleased)?;
+        self.add_report(&mut outcomes, Attention::RegistrationsPreempted)?;
+        self.add_fault(&mut outcomes)?;
+        self.add_declared(&mut outcomes, self.refusals.busy, Unserved::Busy)?;
+        self.add_declared(&mut outcomes, self.refusals.full, Unserved::Full)?;
         Ok(outcomes)
     }
 

@@ -1,5 +1,5 @@
 -- What is found of each landing, and where the possibilities of a landing come from.
-use Rattle.std.specs.Prelude.{◌≡◌, ◌≢◌, ◌↔◌, ◌⊎◌, ℕ, zero, suc, ◌<◌, Bool, true, false, ◌==◌, ◌&&◌, not, nat_lt, List, [], Some, None}
+use Rattle.std.specs.Prelude.{◌≡◌, ◌≢◌, ◌↔◌, ◌⊎◌, ℕ, zero, suc, ◌<◌, Bool, true, false, ◌==◌, ◌&&◌, not, nat_lt, IsTrue, List, [], Some, None}
 use Rattle.std.specs.FinSet as set
 use Rattle.std.specs.List.{All, slice_get}
 use Rattle.pr_cdb.specs.declared.command.Command.{Command}
@@ -29,7 +29,7 @@ use Rattle.pr_views.specs.declared.view.ViewOf.{ViewOf}
 use Rattle.pr_views.specs.Possibilities.{Scope, Item, IsSo, count_of_attentions}
 use Rattle.pr_views.specs.Views.{View, IsPossible, Shows}
 use Rattle.pr_views.specs.Portions.{view_in}
-use Rattle.pr_views.specs.Rooms.{view_of}
+use Rattle.pr_views.specs.Rooms.{scope_of, view_of, AreAlike}
 use Rattle.pr_domain.specs.declared.reporting.Unserved.{Unserved}
 use Rattle.pr_domain.specs.declared.reporting.Unserved.TheVariants as refused
 use Rattle.pr_domain.specs.Landings.{IsLanding}
@@ -82,20 +82,24 @@ AreQuiet known quiet = (q : ℕ) → has quiet q ≡ (has known.pending q && q =
 -- ---- outcomes
 
 -- some outcome has this landing and this possibility
-abbrev pub HasOutcome : {S : Type 0} {sets : ViewSet S} → ℕ → List (Landing × ViewOf S sets) → Landing → Item → Type 0
-HasOutcome {S = S} {sets = sets} own outcomes l i =
-    (k : ℕ) × (v : ViewOf S sets) × (slice_get outcomes k ≡ Some (l, v)) × IsPossible (view_of own v) i
+abbrev pub HasOutcome : Scope → List (Landing × Possibilities) → Landing → Item → Type 0
+HasOutcome s outcomes l i = (k : ℕ) × (p : Possibilities) × (slice_get outcomes k ≡ Some (l, p)) × IsPossible (view_in s p) i
 
--- Each view is of these keys and so many nexuses, and has some possibility; each landing stands once.
-pub record AreKept {S : Type 0} {sets : ViewSet S} (hosts : ℕ) (keys : List ℕ) (outcomes : List (Landing × ViewOf S sets)) : Type 0 where
-  pub alike : (k : ℕ) (l : Landing) (v : ViewOf S sets) → slice_get outcomes k ≡ Some (l, v) → (v.keys.items ≡ keys) × (v.hosts ≡ hosts)
-  pub come : (own k : ℕ) (l : Landing) (v : ViewOf S sets) → slice_get outcomes k ≡ Some (l, v) → (i : Item) × IsPossible (view_of own v) i
-  pub once : (j k : ℕ) (l : Landing) (v w : ViewOf S sets) → slice_get outcomes j ≡ Some (l, v) → slice_get outcomes k ≡ Some (l, w) → j ≡ k
+-- each outcome has some reservation, and each landing stands once
+pub record AreKept (outcomes : List (Landing × Possibilities)) : Type 0 where
+  pub reserved : (k : ℕ) (l : Landing) (p : Possibilities) → slice_get outcomes k ≡ Some (l, p) → (x : ℕ) × (has_wide p.reservations x ≡ true)
+  pub once : (j k : ℕ) (l : Landing) (p q : Possibilities) → slice_get outcomes j ≡ Some (l, p) → slice_get outcomes k ≡ Some (l, q) → j ≡ k
 
 -- the new outcomes have what the old ones have, and this
-abbrev pub AreMore : {S : Type 0} {sets : ViewSet S} → ℕ → List (Landing × ViewOf S sets) → (Landing → Item → Type 0) → List (Landing × ViewOf S sets) → Type 0
-AreMore own old This new =
-    (l : Landing) (i : Item) → HasOutcome own new l i ↔ (HasOutcome own old l i ⊎ This l i)
+abbrev pub AreMore : Scope → List (Landing × Possibilities) → (Landing → Item → Type 0) → List (Landing × Possibilities) → Type 0
+AreMore s old This new =
+    (l : Landing) (i : Item) → HasOutcome s new l i ↔ (HasOutcome s old l i ⊎ This l i)
+
+-- the outcome has the landing of the one that was found and, in a view like this one, its possibilities
+pub record HasWords {S : Type 0} {sets : ViewSet S} (view : ViewOf S sets) (found : Landing × Possibilities) (outcome : Landing × ViewOf S sets) : Type 0 where
+  pub landing : outcome.0 ≡ found.0
+  pub alike : AreAlike view outcome.1
+  pub same : (own : ℕ) (i : Item) → IsPossible (view_of own outcome.1) i ↔ IsPossible (view_in (scope_of own outcome.1) found.1) i
 
 -- ---- where they come from
 
@@ -155,6 +159,10 @@ pub record LandsBy (v : View) (c : Command) (tests : List Test) (ending : Ending
   pub ends : Ends ending c v.scope.own from reply after
   pub landing : IsLanding tests reply l
   pub is : IsSo v.scope after i
+
+-- so it lands by an end that may come where the owner may meet these refusals
+abbrev pub LandsSomehow : View → Refusals → Command → List Test → Landing → Item → Type 0
+LandsSomehow v d c tests l i = (ending : Ending) × IsTrue (comes d ending) × LandsBy v c tests ending l i
 
 -- GOOD with the data taken by this arm
 abbrev pub LandsGood : View → Command → List Test → ℕ → Landing → Item → Type 0

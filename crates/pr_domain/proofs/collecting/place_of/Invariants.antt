@@ -1,6 +1,6 @@
-use Rattle.pr_domain.proofs.Common.{ℕ, ◌<◌, ◌≢◌, slice_get, Some, ViewOf}
+use Rattle.pr_domain.proofs.Common.{ℕ, ◌<◌, ◌≢◌, slice_get, Some, Possibilities}
 use Rattle.pr_domain.proofs.collecting.place_of.Given as goal
 
 -- no outcome before this one has the landing
 abbrev pub invariant-loop-place : goal.invariant-loop-place
-invariant-loop-place g l = (k : ℕ) (v : ViewOf g.row.S.Denot g.S.ViewSet) → k < l.place → slice_get l.outcomes k ≢ Some (l.landing, v)
+invariant-loop-place l = (k : ℕ) (p : Possibilities) → k < l.place → slice_get l.outcomes k ≢ Some (l.landing, p)

@@ -4,12 +4,6 @@ use Rattle.std.specs.FinSet as set
 use Rattle.pr_attention.proofs.lemmas.Bits.{same_bits}
 use Rattle.pr_domain.specs.inside.Reporting.{IsAfter}
 
-pub reported_none : (pending : BitSet) (a : Attention) (left : BitSet) → ((n : ℕ) → has left n ≡ false) → AreReported 0 pending a left
-reported_none pending a left none = record {
-  all = λ q n below there after. absurd (omega arith);
-  only = λ n there. absurd (false≢true (sym (none n) ∙ there));
-}
-
 -- one set more in which it is
 pub reported_more : (bound : ℕ) (pending : BitSet) (a : Attention) (left new : BitSet) (m : ℕ) → AreReported bound pending a left → has pending bound ≡ true → IsAfter bound a m
     → ((n : ℕ) → has new n ≡ (n == m || has left n)) → AreReported (bound + 1) pending a new

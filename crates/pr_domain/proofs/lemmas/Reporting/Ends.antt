@@ -1,5 +1,5 @@
 -- A step of a command is one of the ways in which it ends.
-use Rattle.pr_domain.proofs.Common.{◌≡◌, ℕ, Bool, true, false, ◌⊎◌, IsTrue, Some, None, Option, sym, refl, ap, ◌∙◌, inl, inr, cases_eq, Command, Reply, Sense, Plain, power_on, code_of, Attention, PowerOn, command_conflicts, command_fault, report, Step, UnitState, is_pending, is_any_pending, IsWellFormed, after_report, Answered, Refusals, Ending, Reports, Conflicts, Fails, EndsGood, Refuses, Ends}
+use Rattle.pr_domain.proofs.Common.{◌≡◌, ℕ, Bool, true, false, ◌⊎◌, IsTrue, Some, None, Option, sym, refl, ap, ◌∙◌, inl, inr, cases_eq, Command, Reply, Sense, Plain, power_on, code_of, Attention, PowerOn, command_conflicts, command_fault, report, Step, UnitState, is_pending, is_any_pending, IsWellFormed, after_report, Answered, Refusals, Ending, Reports, Conflicts, Fails, EndsGood, Refuses, Ends, MayReport}
 use Rattle.pr_attention.specs.Attentions.{each_attention}
 use Rattle.pr_attention.proofs.lemmas.FourCodes.{listed, which}
 use Rattle.pr_roles.proofs.lemmas.FirstElements.Tests.{any_from}
@@ -9,7 +9,7 @@ use Rattle.pr_roles.specs.declared.how.How.{How}
 use Rattle.pr_roles.specs.Answers.{Answers}
 use Rattle.pr_roles.specs.DeclaredRefusals.{is_among}
 use Rattle.pr_domain.specs.declared.reporting.Unserved.TheVariants as refused
-use Rattle.pr_domain.specs.inside.Reporting.{IsLater, IsReport, MayReport, comes}
+use Rattle.pr_domain.specs.inside.Reporting.{IsLater, IsReport, comes}
 
 report_ends : (d : Refusals) (u : UnitState) (h : ℕ) (c : Command) (r : Reply) (w : UnitState) → IsWellFormed u → is_pending u h power_on ≡ false → command_conflicts u.registry h c ≡ false
     → ReportsSome u h (Plain c) r w → (ending : Ending) × IsTrue (comes d ending) × Ends ending c h u r w

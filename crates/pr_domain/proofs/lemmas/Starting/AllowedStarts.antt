@@ -1,5 +1,5 @@
 -- The view of the written alternatives shows each allowed start, and what is kept of it is so in one.
-use Rattle.pr_domain.proofs.Common.{◌≡◌, ℕ, ◌<◌, true, Some, Contains, sym, ap, ◌∙◌, subst, key_of, UnitState, is_pending, is_reservation, Scenario, nexus, view_in, Scope, number_of, count_of_reservations, Registration, Reservation, Attentions, IsSo, AreInRange, View, Shows, Possibilities, reservation_of, AreAlternatives}
+use Rattle.pr_domain.proofs.Common.{◌≡◌, ℕ, ◌<◌, true, Some, Contains, sym, ap, ◌∙◌, subst, key_of, UnitState, is_pending, is_reservation, Scenario, nexus, view_in, Scope, number_of, count_of_reservations, Registration, Reservation, Attentions, IsSo, AreInRange, View, Shows, Possibilities, reservation_of, AreAlternatives, IsSame}
 use Rattle.pr_roles.specs.Fitting.{Fits as FitsAll, is_alternative}
 use Rattle.pr_roles.specs.Scenarios.{Nexus}
 use Rattle.pr_roles.specs.Starts.{IsAllowedStart}
@@ -10,7 +10,7 @@ use Rattle.pr_domain.specs.inside.Beginning.{registration_in}
 use Rattle.pr_regions.specs.Keeping.{IsKept, IsShownSo}
 use Rattle.pr_domain.proofs.lemmas.Starting.ShownStarts.{starts_so}
 use Rattle.pr_domain.proofs.lemmas.Starting.CodeSubsets.{numbered}
-use Rattle.pr_regions.proofs.lemmas.Showing.AlikeViews.{IsSame, shows_within, reservation_below}
+use Rattle.pr_regions.proofs.lemmas.Showing.AlikeViews.{shows_within, reservation_below}
 use Rattle.pr_domain.proofs.lemmas.Starting.WrittenNumbers.{registration_below, registration_tells, start_fits}
 
 pub start_shown : (sc : Scenario) (s : Scope) (p : Possibilities) (u : UnitState) → FitsAll sc → s.keys ≡ sc.keys → s.own < s.hosts → AreAlternatives sc s p → IsAllowedStart sc u

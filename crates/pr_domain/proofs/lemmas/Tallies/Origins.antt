@@ -143,7 +143,7 @@ pub record IsTold (v : View) (c : Command) (tests : List Test) (ending : Ending)
 
 module _ (v : View) (c : Command) (tests : List Test) (ending : Ending) (l : Landing) (Left : UnitState → Item → Type 0) (p : Possibilities) (pending : BitSet)
     (way : IsWay v Left p) (told : IsTold v c tests ending l Left pending) where
-  pub from_part : (j : Item) (n : ℕ) → has_part p j ≡ true → has pending n ≡ true → (u : UnitState) × Shows v u × Leads v c tests ending l u j n
+  from_part : (j : Item) (n : ℕ) → has_part p j ≡ true → has pending n ≡ true → (u : UnitState) × Shows v u × Leads v c tests ending l u j n
   from_part j n has left =
       let q = told.back n left in
       let found = way.only j q.0 has q.1 in

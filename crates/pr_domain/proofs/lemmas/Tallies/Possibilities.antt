@@ -1,9 +1,9 @@
 -- The possibilities of a tally, and the attentions beside them, are those of each way to end.
-use Rattle.pr_domain.proofs.Common.{◌≡◌, ℕ, zero, suc, Bool, true, false, not, ◌&&◌, ◌||◌, ◌⊎◌, ◌↔◌, List, is_some, nat_lt, ◌==◌, slice_get, Some, None, Option, sym, refl, ap, ◌∙◌, subst, inl, inr, arith, option_map_or, false≢true, not-true, and_parts, or_cases, and_from, or_left, or_right, nat_tests, has, BitSet, Command, Reply, Sense, Plain, power_on, code_of, codes_of, Attention, PowerOn, command_conflicts, command_fault, good, check, conflict, report, data_of, UnitState, is_pending, is_any_pending, effect, after_report, Test, view_in, Scope, Item, Attentions, IsSo, View, Shows, Possibilities, first_test, IsLanding, Landing, Unserved, Tally, AreReported, Reports, Conflicts, Fails, EndsGood, Refuses, refusal, landing_at, IsRegistered, has_part, has_tallied, arm_of, Leaves, IsTally, ATTENTION_SETS}
+use Rattle.pr_domain.proofs.Common.{◌≡◌, ℕ, zero, suc, Bool, true, false, not, ◌&&◌, ◌||◌, ◌⊎◌, ◌↔◌, List, is_some, nat_lt, ◌==◌, slice_get, Some, None, Option, sym, refl, ap, ◌∙◌, subst, inl, inr, arith, option_map_or, false≢true, not-true, and_parts, or_cases, and_from, or_left, or_right, nat_tests, has, BitSet, Command, Reply, Sense, Plain, power_on, code_of, codes_of, Attention, PowerOn, command_conflicts, command_fault, good, check, conflict, report, data_of, UnitState, is_pending, is_any_pending, effect, after_report, Test, view_in, Scope, Item, Attentions, IsSo, View, Shows, Possibilities, first_test, IsLanding, Landing, Unserved, Tally, AreReported, Reports, Conflicts, Fails, EndsGood, Refuses, refusal, landing_at, IsRegistered, has_part, has_tallied, arm_of, Leaves, IsTally, ATTENTION_SETS, MayReport}
 use Rattle.std.specs.FinSet as set
 use Rattle.std.proofs.lemmas.Bool.{lt-ltb}
 use Rattle.pr_views.proofs.lemmas.Possibilities.Numbers.{one_attentions}
-use Rattle.pr_domain.specs.inside.Reporting.{AreCalm, AreQuiet, MayReport}
+use Rattle.pr_domain.specs.inside.Reporting.{AreCalm, AreQuiet}
 use Rattle.pr_domain.proofs.lemmas.Reporting.OwnerStates.{after_reported, reported_after, idle_from_zero, quiet_number, untold_pending}
 use Rattle.pr_domain.proofs.lemmas.Tallies.Origins.{so_from_registered, still_registered, IsWay, IsTold}
 

@@ -48,15 +48,6 @@ found_in v c tests At move old new way p shows is added leaves w i q has pending
         let leaving = subst (λ n. Leaves v.scope c tests n met.0 i) (sym here.0) (leaves met.0 i met.1 met.2) in
         record { unit = met.0; shown = shows met.0 met.1; among = met.1; leaves = leaving; pending = met.3 })
 
--- ---- nothing is added
-
-pub grows_nothing : (v : View) (c : Command) (tests : List Test) (t : Tally) (At : UnitState → Type 0) → ((u : UnitState) → At u → ⊥) → Grows v c tests t t At
-grows_nothing v c tests t At nobody = record {
-  kept = λ way i has. has;
-  all = λ u way i shown at leaves. absurd (nobody u at);
-  only = λ way i q has pending. inl has;
-}
-
 -- ---- a conflict
 
 pub grows_conflict : (v : View) (c : Command) (tests : List Test) (At : UnitState → Type 0) (old new : Tally) (p : Possibilities)

@@ -1,5 +1,5 @@
 -- What a sender with one of some registrations asks for, and how that ends.
-use Rattle.pr_domain.proofs.Common.{◌≡◌, ℕ, zero, suc, ◌<◌, Bool, true, false, not, ◌&&◌, List, length, if◌then◌else◌, nat_lt, ◌==◌, Some, None, Contains, Option, option_map, sym, refl, ap, ◌∙◌, subst, arith, false≢true, or_left, nat_tests, slice_get-get_or, has, BitSet, Command, State, key_of, Held, One, command_conflicts, UnitState, Test, view_in, Scope, Registration, IsSo, Shows, Possibilities, one_registration, IsPlace, IsUniform, IsAt, is_refused, standing_of, AreBranches, Place, Branch, Region, same_reservation, IsRight, IsInOne, MOST_REGISTRATIONS}
+use Rattle.pr_domain.proofs.Common.{◌≡◌, ℕ, zero, suc, ◌<◌, Bool, true, false, List, length, if◌then◌else◌, nat_lt, ◌==◌, Some, None, Contains, Option, option_map, sym, refl, ap, ◌∙◌, subst, arith, false≢true, or_left, nat_tests, slice_get-get_or, has, BitSet, Command, State, key_of, Held, One, command_conflicts, UnitState, Test, view_in, Scope, Registration, IsSo, Shows, Possibilities, one_registration, IsPlace, IsUniform, IsAt, is_refused, standing_of, AreBranches, Place, Branch, Region, same_reservation, IsRight, IsInOne, MOST_REGISTRATIONS}
 use Rattle.std.proofs.lemmas.Bool.{lt-ltb}
 use Rattle.pr_registry.specs.declared.held.Held.TheVariants.{All as Everybody}
 use Rattle.pr_unit.specs.Demands.{demand_of}
