@@ -42,9 +42,8 @@ pub use Rattle.pr_roles.proofs.lemmas.FirstStarts.Existence.{slice_get_contains}
 pub use Rattle.pr_views.specs.Possibilities.{Scope, IsScope, Item, Registration, Reservation, Attentions, IsSo}
 pub use Rattle.pr_views.specs.Rooms.{scope_of, view_of, AreAlike}
 pub use Rattle.pr_views.specs.Views.{View, IsPossible, Shows, Fits, Within}
-pub use Rattle.pr_views.specs.declared.view.ViewOf.{ViewOf}
 pub use Rattle.pr_views.proofs.lemmas.Views.ShownStates.{shown_within}
-pub use Rattle.pr_views.proofs.lemmas.Views.Values.{fits}
+pub use Rattle.pr_views.proofs.lemmas.Views.Values.{same_view}
 pub use Rattle.pr_domain.specs.Landings.{IsLanding}
 pub use Rattle.pr_domain.specs.Outcomes.{Outcome, IsExpected, AreOutcomes}
 pub use Rattle.pr_domain.specs.Starting.{IsOfStart}
@@ -63,7 +62,6 @@ pub use Rattle.pr_verify.specs.Verdicts.{IsVerdict}
 pub use Rattle.pr_verify.specs.declared.inferring.Inference.{Inference}
 pub use Rattle.pr_verify.specs.declared.known.Answer.{Answer}
 pub use Rattle.pr_verify.specs.declared.known.Closing.{Closing}
-pub use Rattle.pr_views.specs.declared.outline.OutlineBy.{OutlineBy}
 pub use Rattle.pr_verify.specs.declared.places.Spot.{Spot}
 pub use Rattle.pr_roles.specs.declared.refusal.Refusal.{Refusal}
 pub use Rattle.pr_verify.specs.declared.sketch.Sketch.{Sketch}
@@ -71,6 +69,7 @@ pub use Rattle.pr_verify.specs.inside.Asked.{IsAnswerTo, AreAnswersTo}
 pub use Rattle.pr_verify.specs.inside.Checks.{IsAnswerFor, IsBegunFor, IsCheckFor, EachFrom, IsAnswerBefore}
 pub use Rattle.pr_verify.specs.inside.Gaining.{Has, IsAtRest, Gains, Reaches, IsLanded, ReachesNext}
 pub use Rattle.pr_verify.specs.inside.Inferring.{IsOf, AreOf, GoesOn, IsViewIn, IsSketch}
+pub use Rattle.pr_verify.specs.inside.Kept.{KeptView, KeptOutline}
 pub use Rattle.pr_verify.specs.inside.Known.{IsAnswer, refusals_for, IsClosing, AreEqual, AreKnown}
 pub use Rattle.pr_verify.specs.inside.Lacking.{HasAll, Lacks, IsFirstLacking, HasView, lines_after, HasNext, LacksNext}
 pub use Rattle.pr_verify.specs.inside.Least.{IsFirst, IsLeast, least, EachOf, IsLeastAmong}

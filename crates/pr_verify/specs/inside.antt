@@ -6,6 +6,7 @@ pub mod Reviewing
 pub mod Tabling
 pub mod Inferring
 pub mod Gaining
+pub mod Kept
 pub mod Known
 pub mod Asked
 pub mod Underway

@@ -3,6 +3,7 @@
 ghost use Rattle.std.specs.Prelude.{◌≡◌, ◌<◌, true, length, map};
 ghost use Rattle.pr_script.specs.Grammar.{rise_above};
 ghost use Rattle.pr_roles.specs.Scenarios.{scenario_of};
+ghost use Rattle.pr_verify.specs.Rooms.{IsMadeFor};
 ghost use Rattle.pr_verify.specs.inside.Listing.{AreWritten, HasEachLine};
 
 use crate::known::{Answer, ask_the_same};
@@ -10,31 +11,31 @@ use crate::nexus::refusals_in;
 use crate::places::Spot;
 use pr_domain::outcomes;
 use pr_roles::Scenario;
-use pr_sets::ViewSet;
-use pr_views::{OutlineBy, ViewOf};
+use pr_views::Outline;
 use std::alloc::{AllocError, Global};
 
-/// The sends of a host's script, which can stand in a text with the scenario's keys, and an outline that has a view for each.
+/// The sends of a host's script, which can stand in a text with the scenario's keys, and an outline of
+/// the scenario that has a view for each.
 #[derive(Drop)]
-pub(crate) struct Questions<'a, V> {
+pub(crate) struct Questions<'a> {
     pub(crate) scenario: &'a Scenario,
-    pub(crate) outline: &'a OutlineBy<V>,
+    pub(crate) outline: &'a Outline,
     pub(crate) spots: &'a [Spot],
     ghost declared: { outline.now.host < length (scenario_of scenario.now).nexuses },
     ghost written: { AreWritten (scenario_of scenario.now).keys spots.now },
     ghost listed: { HasEachLine outline.now.views.items spots.now },
     ghost rise: { rise_above 0 (map (λ e. e.0) outline.now.views.items) ≡ true },
+    ghost made: { IsMadeFor (scenario_of scenario.now) outline.now },
 }
 
-impl<S: ViewSet> Questions<'_, ViewOf<S>> {
+impl Questions<'_> {
     ghost use Rattle.std.specs.Prelude.{IsTrue, IfOk, IfSome, OnOk};
     ghost use Rattle.std.specs.List.{All};
-    ghost use Rattle.pr_verify.specs.inside.Asked.{AreMade, IsSameQuestion, AreAnswersTo, IsAskedBefore, IsAnsweredAt};
+    ghost use Rattle.pr_verify.specs.inside.Asked.{IsSameQuestion, AreAnswersTo, IsAskedBefore, IsAnsweredAt};
 
     // Whether the two places ask the same in views with the same possibilities. Few sends are of one command, so commands
     // are compared first.
     fn are_same(&self, place: usize, other: usize) -> bool
-        requires made { AreMade self.now }
         requires place { place < length self.now.spots.now }
         requires other { other < length self.now.spots.now }
         ensures { IsTrue result → IsSameQuestion self.now place other }
@@ -48,8 +49,7 @@ impl<S: ViewSet> Questions<'_, ViewOf<S>> {
     }
 
     // Where an equal question was answered.
-    fn place_of(&self, known: &[Answer<ViewOf<S>>], place: usize) -> Option<usize>
-        requires made { AreMade self.now }
+    fn place_of(&self, known: &[Answer], place: usize) -> Option<usize>
         requires there { place < length self.now.spots.now }
         requires known { All (λ a. a.spot < length self.now.spots.now) known.now }
         ensures { IfSome result (IsAskedBefore self.now place known.now) }
@@ -66,15 +66,13 @@ impl<S: ViewSet> Questions<'_, ViewOf<S>> {
     pub(crate) fn answer(
         &self,
         alloc: Global,
-        known: &mut Vec<Answer<ViewOf<S>>>,
+        known: &mut Vec<Answer>,
         place: usize,
     ) -> Result<usize, AllocError>
-        requires made { AreMade self.now }
         requires there { place < length self.now.spots.now }
         requires known { AreAnswersTo self.now known.old.items }
         ensures known { OnOk result (AreAnswersTo self.now known.new.items) }
-        ensures answer { IfOk result (IsAnsweredAt self.now place
-            known.new.items) }
+        ensures answer { IfOk result (IsAnsweredAt self.now place known.new.items) }
     {
         if let Some(number) = self.place_of(known, place) {
             return Ok(number);

@@ -21,7 +21,7 @@ use crate::reviewing::{first_misfit, first_unsound};
 use pr_roles::{Refusal, Scenario, Task, nexus_in};
 use pr_script::{Script, cost};
 use pr_sets::ViewSet;
-use pr_views::{OutlineOf, ViewOf};
+use pr_views::{Outline, OutlineOf, View};
 use std::alloc::Global;
 
 /// Whether the outline is sound and fits, so that the host's script keeps what safety asks of it; else the first reason
@@ -36,14 +36,14 @@ pub fn check_outline<S: ViewSet>(
     ensures sound { OnOk result (IsSoundFor (scenario_of scenario.now) outline.now) }
     ensures fields { OnOk result (HostSendsFit (scenario_of scenario.now) outline.now.host) }
     ensures fitting { OnOk result (IsFittingFor (scenario_of scenario.now) outline.now) }
-    ensures refusal { IfErr result (IsRefusalFor (scenario_of scenario.now)
-        outline.now) }
+    ensures refusal { IfErr result (IsRefusalFor (scenario_of scenario.now) outline.now) }
 {
+    let outline = outline.in_sets(alloc)?;
     match &nexus_in(scenario, outline.host).task {
         Task::Scripted { script, budget } => {
             check_cost(script, *budget, outline.host)?;
-            check_sound(alloc, scenario, script, outline)?;
-            check_fit(alloc, scenario, script, outline)
+            check_sound(alloc, scenario, script, &outline)?;
+            check_fit(alloc, scenario, script, &outline)
         }
         Task::Planned(_) => unreachable!(),
     }
@@ -63,11 +63,11 @@ pub(crate) fn check_cost(script: &Script, budget: u32, host: u8) -> Result<(), R
 }
 
 // Whether the outline has a view for each send, and each view shows what it has to.
-fn check_sound<S: ViewSet>(
+fn check_sound(
     alloc: Global,
     scenario: &Scenario,
     script: &Script,
-    outline: &OutlineOf<S>,
+    outline: &Outline,
 ) -> Result<(), Refusal>
     requires starts { CanStart (scenario_of scenario.now) }
     requires able { CanCheck (scenario_of scenario.now) (script_of script.now) outline.now }
@@ -91,11 +91,11 @@ fn check_sound<S: ViewSet>(
 }
 
 /// Whether the sound outline fits, by the script of its host, which is within its budget.
-pub(crate) fn check_fit<S: ViewSet>(
+pub(crate) fn check_fit(
     alloc: Global,
     scenario: &Scenario,
     script: &Script,
-    outline: &OutlineOf<S>,
+    outline: &Outline,
 ) -> Result<(), Refusal>
     requires able { CanCheck (scenario_of scenario.now) (script_of script.now) outline.now }
     requires sound { IsSoundBy scenario.now script.now outline.now }
@@ -116,7 +116,7 @@ pub(crate) fn check_fit<S: ViewSet>(
 }
 
 // The smaller of two lines, where first a view's line is not that of its send; where one of them ends, the other's.
-fn first_difference<S: ViewSet>(views: &[(u32, ViewOf<S>)], spots: &[Spot]) -> Option<u32>
+fn first_difference(views: &[(u32, View)], spots: &[Spot]) -> Option<u32>
     ensures { result ≡ first_difference (map (λ e. e.0) views.now) (map (λ p. p.line) spots.now) }
 {
     for (i, entry) in views.iter().enumerate() {

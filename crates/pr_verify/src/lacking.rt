@@ -8,14 +8,13 @@ ghost use Rattle.pr_roles.specs.Starts.{CanStart};
 ghost use Rattle.pr_views.specs.Rooms.{view_of};
 ghost use Rattle.pr_verify.specs.Outlines.{view_at};
 ghost use Rattle.pr_views.specs.Tables.{outline_of};
-ghost use Rattle.pr_verify.specs.inside.Asked.{AreMade, IsFirstUnstarted, scenario_in};
+ghost use Rattle.pr_verify.specs.inside.Asked.{IsFirstUnstarted, scenario_in};
 ghost use Rattle.pr_verify.specs.inside.Least.{least};
 ghost use Rattle.pr_verify.specs.inside.Lacking.{CanCompare, IsFirstWithout, IsWithinAt};
 
 use crate::answers::Questions;
 use pr_domain::of_start;
-use pr_sets::ViewSet;
-use pr_views::{OutlineOf, ViewOf};
+use pr_views::{Outline, View};
 use std::alloc::{AllocError, Global};
 
 /// The smaller of two lines, where they are there.
@@ -30,11 +29,7 @@ pub(crate) fn least(line: Option<u32>, other: Option<u32>) -> Option<u32>
 }
 
 /// The first of the lines, by number, at which the outline has no view with everything that is possible in this one.
-pub(crate) fn first_lacking<S: ViewSet>(
-    outline: &OutlineOf<S>,
-    known: &ViewOf<S>,
-    lines: &[u32],
-) -> Option<u32>
+pub(crate) fn first_lacking(outline: &Outline, known: &View, lines: &[u32]) -> Option<u32>
     requires { CanCompare outline.now.views.items known.now }
     ensures { IsFirstWithout outline.now known.now lines.now result }
 {
@@ -48,7 +43,7 @@ pub(crate) fn first_lacking<S: ViewSet>(
 }
 
 // Whether the outline has a view at this line in which everything is possible that is possible in this one.
-fn has_within<S: ViewSet>(outline: &OutlineOf<S>, line: u32, known: &ViewOf<S>) -> bool
+fn has_within(outline: &Outline, line: u32, known: &View) -> bool
     requires { CanCompare outline.now.views.items known.now }
     ensures { IsTrue result ↔ IsWithinAt outline.now known.now line }
 {
@@ -59,7 +54,7 @@ fn has_within<S: ViewSet>(outline: &OutlineOf<S>, line: u32, known: &ViewOf<S>) 
 }
 
 // The view at this line.
-fn view_at<S: ViewSet>(outline: &OutlineOf<S>, line: u32) -> Option<&ViewOf<S>>
+fn view_at(outline: &Outline, line: u32) -> Option<&View>
     ensures value { view_at (outline_of outline.now).views line
         ≡ option_map (λ v. view_of outline.now.host v.now) result }
     ensures listed { IfSome result (λ v. Contains (map (λ e. e.1) outline.now.views.items) v.now) }
@@ -74,13 +69,12 @@ fn view_at<S: ViewSet>(outline: &OutlineOf<S>, line: u32) -> Option<&ViewOf<S>>
 
 /// The first of these lines, at which the script may be ready first, whose view lacks a state that the scenario may
 /// start from.
-pub(crate) fn lacking_at_start<S: ViewSet>(
+pub(crate) fn lacking_at_start(
     alloc: Global,
-    asked: &Questions<ViewOf<S>>,
+    asked: &Questions,
     lines: &[u32],
 ) -> Result<Option<u32>, AllocError>
     requires starts { CanStart (scenario_in asked.now) }
-    requires made { AreMade asked.now }
     ensures { IfOk result (IsFirstUnstarted asked.now lines.now) }
 {
     let outline = asked.outline;

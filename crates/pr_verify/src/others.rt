@@ -1,25 +1,21 @@
 //! Whether the views of an outline stand whatever the others do, and through resets of the unit.
 
 ghost use Rattle.std.specs.Prelude.{◌≡◌, ℕ, false, map, IsTrue, IfOk};
+ghost use Rattle.std.specs.List.{Contains};
 ghost use Rattle.pr_roles.specs.Scenarios.{scenario_of};
 ghost use Rattle.pr_views.specs.Rooms.{view_of};
-ghost use Rattle.pr_verify.specs.inside.Asked.{AreMade, IsClosedIn, IsClosedToOthersIn, IsFirstLeft, IsOpenIn, scenario_in};
-ghost use Rattle.pr_verify.specs.inside.Lacking.{CanCompare, IsClosedToResetsOfAny, IsOpenOfAny, IsSameAsOne};
+ghost use Rattle.pr_verify.specs.inside.Asked.{IsClosedIn, IsClosedToOthersIn, IsFirstLeft, IsOpenIn, scenario_in};
+ghost use Rattle.pr_verify.specs.inside.Lacking.{CanCompare, IsClosedToResetsOfAny, IsOpenOfAny};
 ghost use Rattle.pr_verify.specs.inside.Reviewing.{IsMadeAs};
 
 use crate::answers::Questions;
 use pr_interference::{interfere, reset};
 use pr_roles::{Scenario, nexus_in};
-use pr_sets::ViewSet;
-use pr_views::ViewOf;
+use pr_views::View;
 use std::alloc::{AllocError, Global};
 
 /// The first line whose view lacks a state to which a permitted command of another or a reset leads from one that it shows.
-pub(crate) fn lacking_by_others<S: ViewSet>(
-    alloc: Global,
-    asked: &Questions<ViewOf<S>>,
-) -> Result<Option<u32>, AllocError>
-    requires { AreMade asked.now }
+pub(crate) fn lacking_by_others(alloc: Global, asked: &Questions) -> Result<Option<u32>, AllocError>
     ensures { IfOk result (IsFirstLeft asked.now) }
 {
     let outline = asked.outline;
@@ -33,11 +29,11 @@ pub(crate) fn lacking_by_others<S: ViewSet>(
     Ok(None)
 }
 
-// Whether the same is possible in the view as in one of these.
-fn is_one_of<S: ViewSet>(view: &ViewOf<S>, others: &[(u32, ViewOf<S>)]) -> bool
+// Whether the view is the same as one of these.
+fn is_one_of(view: &View, others: &[(u32, View)]) -> bool
     requires { CanCompare others.now view.now }
-    ensures { IsTrue result → (own : ℕ) → IsSameAsOne (view_of own view.now)
-        (map (λ e. view_of own e.1) others.now) }
+    ensures { IsTrue result → (own : ℕ) → Contains (map (λ e. view_of own e.1) others.now)
+        (view_of own view.now) }
 {
     for (_, other) in others {
         if view.within(other) && other.within(view) {
@@ -48,11 +44,7 @@ fn is_one_of<S: ViewSet>(view: &ViewOf<S>, others: &[(u32, ViewOf<S>)]) -> bool
 }
 
 // Whether the view shows each state to which a permitted command of another or a reset leads from one that it shows.
-fn is_closed<S: ViewSet>(
-    alloc: Global,
-    asked: &Questions<ViewOf<S>>,
-    view: &ViewOf<S>,
-) -> Result<bool, AllocError>
+fn is_closed(alloc: Global, asked: &Questions, view: &View) -> Result<bool, AllocError>
     requires { IsMadeAs (scenario_in asked.now) view.now }
     ensures closed { IfOk result (λ is. IsTrue is → IsClosedIn asked.now view.now) }
     ensures open { IfOk result (λ is. is ≡ false → IsOpenIn asked.now view.now) }
@@ -64,11 +56,7 @@ fn is_closed<S: ViewSet>(
 }
 
 // Whether it shows each shown state after a reset, where the scenario has any.
-fn is_closed_to_resets<S: ViewSet>(
-    alloc: Global,
-    scenario: &Scenario,
-    view: &ViewOf<S>,
-) -> Result<bool, AllocError>
+fn is_closed_to_resets(alloc: Global, scenario: &Scenario, view: &View) -> Result<bool, AllocError>
     ensures closed { IfOk result (λ is. IsTrue is
         → IsClosedToResetsOfAny (scenario_of scenario.now) view.now) }
     ensures open { IfOk result (λ is. is ≡ false
@@ -82,14 +70,9 @@ fn is_closed_to_resets<S: ViewSet>(
 }
 
 // Whether it shows each state to which a permitted command of another leads from one that it shows.
-fn is_closed_to_others<S: ViewSet>(
-    alloc: Global,
-    asked: &Questions<ViewOf<S>>,
-    view: &ViewOf<S>,
-) -> Result<bool, AllocError>
+fn is_closed_to_others(alloc: Global, asked: &Questions, view: &View) -> Result<bool, AllocError>
     requires { IsMadeAs (scenario_in asked.now) view.now }
-    ensures closed { IfOk result (λ is. IsTrue is
-        → IsClosedToOthersIn asked.now view.now) }
+    ensures closed { IfOk result (λ is. IsTrue is → IsClosedToOthersIn asked.now view.now) }
     ensures open { IfOk result (λ is. is ≡ false → IsOpenIn asked.now view.now) }
 {
     let own = asked.outline.host;

@@ -6,7 +6,7 @@ ghost use Rattle.pr_script.specs.Trees.{script_of};
 ghost use Rattle.pr_roles.specs.Starts.{CanStart};
 ghost use Rattle.pr_verify.specs.Outlines.{KeepsToRole};
 ghost use Rattle.pr_verify.specs.Refusals.{class_number};
-ghost use Rattle.pr_verify.specs.inside.Asked.{AreMade, IsAnswered, IsFirstMisfitIn, IsFirstUnsound, IsMisfitIn, outline_in, scenario_in};
+ghost use Rattle.pr_verify.specs.inside.Asked.{IsAnswered, IsFirstMisfitIn, IsFirstUnsound, IsMisfitIn, outline_in, scenario_in};
 ghost use Rattle.pr_verify.specs.inside.Listing.{lines_in, place_of, AreSendsOf};
 ghost use Rattle.pr_verify.specs.inside.Lacking.{CanCompare, IsFirstWithoutAfter, lines_after};
 ghost use Rattle.pr_verify.specs.inside.Reviewing.{IsFirstUnarmed, earlier, earlier_from};
@@ -18,19 +18,17 @@ use crate::places::{Spot, first_lines};
 use pr_permission::permitted;
 use pr_roles::{Refusal, nexus_in};
 use pr_script::{Class, Landing, Script};
-use pr_sets::ViewSet;
-use pr_views::{OutlineOf, ViewOf};
+use pr_views::{Outline, View};
 use std::alloc::{AllocError, Global};
 
 /// The first line whose view lacks a state that it has to show: an allowed start, one to which a send leads, or one that the
 /// others leave.
-pub(crate) fn first_unsound<S: ViewSet>(
+pub(crate) fn first_unsound(
     alloc: Global,
     script: &Script,
-    asked: &Questions<ViewOf<S>>,
+    asked: &Questions,
 ) -> Result<Option<u32>, AllocError>
     requires starts { CanStart (scenario_in asked.now) }
-    requires made { AreMade asked.now }
     requires places { AreSendsOf (script_of script.now) asked.now.spots.now }
     ensures { IfOk result (IsFirstUnsound asked.now (script_of script.now)) }
 {
@@ -48,11 +46,7 @@ pub(crate) fn first_unsound<S: ViewSet>(
 }
 
 /// The first send whose command the role doesn't permit, or of which no arm takes some reply.
-pub(crate) fn first_misfit<S: ViewSet>(
-    alloc: Global,
-    asked: &Questions<ViewOf<S>>,
-) -> Result<Option<Refusal>, AllocError>
-    requires { AreMade asked.now }
+pub(crate) fn first_misfit(alloc: Global, asked: &Questions) -> Result<Option<Refusal>, AllocError>
     ensures { IfOk result (IsFirstMisfitIn asked.now) }
 {
     let mut known = Vec::new(alloc);
@@ -68,11 +62,7 @@ pub(crate) fn first_misfit<S: ViewSet>(
 }
 
 // The first line to which an outcome leads, and whose view lacks something of the outcome's.
-fn lacking_after<S: ViewSet>(
-    outline: &OutlineOf<S>,
-    outcomes: &[(Landing, ViewOf<S>)],
-    next: &[Vec<u32>],
-) -> Option<u32>
+fn lacking_after(outline: &Outline, outcomes: &[(Landing, View)], next: &[Vec<u32>]) -> Option<u32>
     requires { All (λ o. CanCompare outline.now.views.items o.1) outcomes.now }
     ensures { IsFirstWithoutAfter outline.now (lines_in next.now) outcomes.now result }
 {
@@ -97,11 +87,11 @@ fn lines_after(landing: Landing, next: &[Vec<u32>]) -> Option<&[u32]>
 
 /// Whether the role permits the command of the send wherever it ends GOOD in the view; and how the send does not fit, if it does
 /// not: its role comes first, then the first class of replies without an arm.
-pub(crate) fn review<S: ViewSet>(
-    asked: &Questions<ViewOf<S>>,
-    view: &ViewOf<S>,
+pub(crate) fn review(
+    asked: &Questions,
+    view: &View,
     spot: &Spot,
-    outcomes: &[(Landing, ViewOf<S>)],
+    outcomes: &[(Landing, View)],
 ) -> (bool, Option<Refusal>)
     requires { IsAnswered asked.now view.now spot.now outcomes.now }
     ensures permitted { IsTrue result.0 ↔ KeepsToRole (scenario_in asked.now) (outline_in asked.now)
@@ -121,10 +111,7 @@ pub(crate) fn review<S: ViewSet>(
 }
 
 /// Of the classes of replies without an arm that have this number or a greater one, the first.
-pub(crate) fn first_unarmed<S: ViewSet>(
-    outcomes: &[(Landing, ViewOf<S>)],
-    from: u32,
-) -> Option<Class>
+pub(crate) fn first_unarmed(outcomes: &[(Landing, View)], from: u32) -> Option<Class>
     ensures { IsFirstUnarmed from (length outcomes.now) outcomes.now result }
 {
     let mut first = None;

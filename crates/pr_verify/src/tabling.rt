@@ -9,7 +9,7 @@ ghost use Rattle.pr_verify.specs.Outlines.{OnScripted};
 ghost use Rattle.pr_verify.specs.Refusals.{class_number};
 ghost use Rattle.pr_roles.specs.Tasks.{IsScripted};
 ghost use Rattle.pr_verify.specs.Rooms.{IsMadeFor};
-ghost use Rattle.pr_verify.specs.inside.Asked.{AreMade, IsAnswered, IsFirstMisfitIn, IsMisfitIn, IsRowIn};
+ghost use Rattle.pr_verify.specs.inside.Asked.{IsAnswered, IsFirstMisfitIn, IsMisfitIn, IsRowIn};
 ghost use Rattle.pr_verify.specs.inside.Reviewing.{IsUnarmed};
 ghost use Rattle.pr_verify.specs.inside.Tabling.{IsCosted, IsInRange, IsJudgement, IsTableFor};
 
@@ -20,8 +20,7 @@ use crate::places::{Spot, spots};
 use crate::reviewing::{first_unarmed, number_of, review};
 use pr_roles::{Refusal, Scenario, Task, nexus_in};
 use pr_script::{Class, Landing};
-use pr_sets::ViewSet;
-use pr_views::{Row, Table, ViewOf};
+use pr_views::{Row, Table, View};
 use std::alloc::{AllocError, Global};
 
 /// The table of a host that has a script, and the first reason against the host, if there is one.
@@ -32,12 +31,9 @@ pub(crate) fn judge_host(
 ) -> Result<(Table, Option<Refusal>), AllocError>
     requires { IsScripted (task (scenario_of scenario.now) host) }
     ensures host { IfOk result (λ r. r.0.outline.host ≡ host) }
-    ensures table { IfOk result (λ r. IsTableFor
-        (scenario_of scenario.now) host r.0) }
-    ensures made { IfOk result (λ r. IsMadeFor
-        (scenario_of scenario.now) r.0.outline) }
-    ensures judgement { IfOk result (λ r. IsJudgement
-        (scenario_of scenario.now) host r.1) }
+    ensures table { IfOk result (λ r. IsTableFor (scenario_of scenario.now) host r.0) }
+    ensures made { IfOk result (λ r. IsMadeFor (scenario_of scenario.now) r.0.outline) }
+    ensures judgement { IfOk result (λ r. IsJudgement (scenario_of scenario.now) host r.1) }
 {
     let script = script_in(scenario, host);
     let spots = spots(alloc, script)?;
@@ -65,13 +61,8 @@ fn over_budget(scenario: &Scenario, host: u8) -> Option<Refusal>
 }
 
 // A row for each send; and how the first send does not fit that does not, if there is one.
-fn rows<S: ViewSet>(
-    alloc: Global,
-    asked: &Questions<ViewOf<S>>,
-) -> Result<(Vec<Row>, Option<Refusal>), AllocError>
-    requires { AreMade asked.now }
-    ensures rows { IfOk result (λ r. AllZip (IsRowIn asked.now) asked.now.spots.now
-        r.0.items) }
+fn rows(alloc: Global, asked: &Questions) -> Result<(Vec<Row>, Option<Refusal>), AllocError>
+    ensures rows { IfOk result (λ r. AllZip (IsRowIn asked.now) asked.now.spots.now r.0.items) }
     ensures misfit { IfOk result (λ r. IsFirstMisfitIn asked.now r.1) }
 {
     let mut known = Vec::new(alloc);
@@ -89,12 +80,12 @@ fn rows<S: ViewSet>(
 }
 
 // The row of one send: the view at its line, and how its command may end there; and how the send does not fit, if it does not.
-fn row_of_spot<S: ViewSet>(
+fn row_of_spot(
     alloc: Global,
-    asked: &Questions<ViewOf<S>>,
-    view: &ViewOf<S>,
+    asked: &Questions,
+    view: &View,
     spot: &Spot,
-    outcomes: &[(Landing, ViewOf<S>)],
+    outcomes: &[(Landing, View)],
 ) -> Result<(Row, Option<Refusal>), AllocError>
     requires { IsAnswered asked.now view.now spot.now outcomes.now }
     ensures row { IfOk result (λ r. IsRowIn asked.now spot.now r.0) }
@@ -115,9 +106,9 @@ fn row_of_spot<S: ViewSet>(
 }
 
 // The arms, of so many, in which some outcome lands.
-fn arms_taken<S: ViewSet>(
+fn arms_taken(
     alloc: Global,
-    outcomes: &[(Landing, ViewOf<S>)],
+    outcomes: &[(Landing, View)],
     count: usize,
 ) -> Result<Vec<usize>, AllocError>
     ensures each { IfOk result (λ arms. (n : ℕ)
@@ -134,7 +125,7 @@ fn arms_taken<S: ViewSet>(
     Ok(arms)
 }
 
-fn lands_in<S: ViewSet>(outcomes: &[(Landing, ViewOf<S>)], landing: Landing) -> bool
+fn lands_in(outcomes: &[(Landing, View)], landing: Landing) -> bool
     ensures { IsTrue result ↔ Contains (map (λ o. o.0) outcomes.now) landing }
 {
     for (other, _) in outcomes {
@@ -146,10 +137,7 @@ fn lands_in<S: ViewSet>(outcomes: &[(Landing, ViewOf<S>)], landing: Landing) -> 
 }
 
 // How the replies end with which some outcome lands in no arm.
-fn unarmed<S: ViewSet>(
-    alloc: Global,
-    outcomes: &[(Landing, ViewOf<S>)],
-) -> Result<Vec<Class>, AllocError>
+fn unarmed(alloc: Global, outcomes: &[(Landing, View)]) -> Result<Vec<Class>, AllocError>
     ensures each { IfOk result (λ classes. (class : Class)
         → Contains classes.items class ↔ IsUnarmed (length outcomes.now) outcomes.now class) }
     ensures rise { IfOk result (λ classes. AllPairs (λ c d. class_number c < class_number d)
@@ -166,7 +154,7 @@ fn unarmed<S: ViewSet>(
 }
 
 // The senses have their fields in the ranges of their types, as each match knows. So no two have one number.
-fn are_in_range<S: ViewSet>(outcomes: &[(Landing, ViewOf<S>)])
+fn are_in_range(outcomes: &[(Landing, View)])
     ensures { (class : Class) → IsUnarmed (length outcomes.now) outcomes.now class
         → IsInRange class }
 {

@@ -1,3 +1,4 @@
 pub mod MappedLists
 pub mod Nexuses
+pub mod OtherSets
 pub mod Scripts

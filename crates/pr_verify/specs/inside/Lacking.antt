@@ -5,13 +5,11 @@ use Rattle.pr_unit.specs.UnitStates.{UnitState, reset}
 use Rattle.pr_script.specs.declared.landing.Landing.{Landing}
 use Rattle.pr_script.specs.declared.landing.Landing.TheVariants.{Arm, NoArm}
 use Rattle.pr_roles.specs.Scenarios.{Scenario, role}
-use Rattle.pr_sets.specs.declared.view_set.ViewSet.{Ghosts as ViewSet}
-use Rattle.pr_views.specs.declared.view.ViewOf.{ViewOf}
-use Rattle.pr_views.specs.Views.{View, Shows, Within}
+use Rattle.pr_views.specs.Views.{View, Shows}
 use Rattle.pr_views.specs.Rooms.{view_of, AreAlike}
 use Rattle.pr_interference.specs.Interference.{IsDone, declares_resets, Becomes}
-use Rattle.pr_views.specs.declared.outline.OutlineBy.{OutlineBy}
 use Rattle.pr_views.specs.Tables.{Outline, outline_of}
+use Rattle.pr_verify.specs.inside.Kept.{KeptOutline, KeptView}
 use Rattle.pr_verify.specs.Outlines.{view_at, IsShownAt}
 use Rattle.pr_verify.specs.LeastOutlines.{IsWithinIn}
 use Rattle.pr_verify.specs.inside.Least.{IsLeast, IsLeastAmong}
@@ -43,15 +41,15 @@ pub record LacksView (o : Outline) (lines : List ℕ) (w : View) (line : ℕ) : 
   pub missing : ¬ IsWithinIn w (view_at o.views line)
 
 -- the view can be compared with each of these
-abbrev pub CanCompare : {S : Type 0} {sets : ViewSet S} → List (ℕ × ViewOf S sets) → ViewOf S sets → Type 0
+abbrev pub CanCompare : List (ℕ × KeptView) → KeptView → Type 0
 CanCompare views v = All (λ e. AreAlike v e.1) views
 
 -- the view at the line has what is possible in this one, as they are kept
-abbrev pub IsWithinAt : {S : Type 0} {sets : ViewSet S} → OutlineBy (ViewOf S sets) → ViewOf S sets → ℕ → Type 0
+abbrev pub IsWithinAt : KeptOutline → KeptView → ℕ → Type 0
 IsWithinAt o v line = IsWithinIn (view_of o.host v) (view_at (outline_of o).views line)
 
 -- the first of these lines at which it has not
-abbrev pub IsFirstWithout : {S : Type 0} {sets : ViewSet S} → OutlineBy (ViewOf S sets) → ViewOf S sets → List ℕ → Option ℕ → Type 0
+abbrev pub IsFirstWithout : KeptOutline → KeptView → List ℕ → Option ℕ → Type 0
 IsFirstWithout o v lines =
     IsLeast (HasView (outline_of o) lines (view_of o.host v)) (LacksView (outline_of o) lines (view_of o.host v))
 
@@ -70,7 +68,7 @@ LacksNext o None w line = ⊥
 LacksNext o (Some lines) w line = LacksView o lines w line
 
 -- the first of the lines after an outcome at which the view there has not what is possible in the outcome's
-abbrev pub IsFirstWithoutAfter : {S : Type 0} {sets : ViewSet S} → OutlineBy (ViewOf S sets) → List (List ℕ) → List (Landing × ViewOf S sets) → Option ℕ → Type 0
+abbrev pub IsFirstWithoutAfter : KeptOutline → List (List ℕ) → List (Landing × KeptView) → Option ℕ → Type 0
 IsFirstWithoutAfter o next outcomes =
     IsLeastAmong (length outcomes) outcomes
     (λ x. HasNext (outline_of o) (lines_after next x.0) (view_of o.host x.1))
@@ -95,15 +93,8 @@ abbrev pub IsClosedToResets : Scenario → View → Type 0
 IsClosedToResets s v = IsTrue (declares_resets s) → (u : UnitState) → Shows v u → Shows v (reset u)
 
 -- a view as it is kept, whoever of its nexuses owns it
-abbrev pub IsClosedToResetsOfAny : {S : Type 0} {sets : ViewSet S} → Scenario → ViewOf S sets → Type 0
+abbrev pub IsClosedToResetsOfAny : Scenario → KeptView → Type 0
 IsClosedToResetsOfAny s v = (own : ℕ) → own < v.hosts → IsClosedToResets s (view_of own v)
 
-abbrev pub IsOpenOfAny : {S : Type 0} {sets : ViewSet S} → Scenario → ViewOf S sets → Type 0
+abbrev pub IsOpenOfAny : Scenario → KeptView → Type 0
 IsOpenOfAny s v = (own : ℕ) → own < v.hosts → IsOpen s (view_of own v)
-
--- the same is possible in the view as in one of these
-pub record IsSameAsOne (v : View) (views : List View) : Type 0 where
-  pub view : View
-  pub listed : Contains views view
-  pub there : Within v view
-  pub back : Within view v

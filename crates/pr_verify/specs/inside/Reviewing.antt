@@ -10,10 +10,8 @@ use Rattle.pr_script.specs.declared.landing.Landing.TheVariants as landing
 use Rattle.pr_script.specs.declared.landing.Class.{Class}
 use Rattle.pr_roles.specs.Scenarios.{Scenario, scenario_of}
 use Rattle.pr_roles.specs.declared.parts.Parts.{Parts}
-use Rattle.pr_sets.specs.declared.view_set.ViewSet.{Ghosts as ViewSet}
 use Rattle.pr_roles.specs.inside.FirstElements.{Among}
-use Rattle.pr_views.specs.declared.view.ViewOf.{ViewOf}
-use Rattle.pr_views.specs.declared.outline.OutlineBy.{OutlineBy}
+use Rattle.pr_verify.specs.inside.Kept.{KeptOutline, KeptView}
 use Rattle.pr_verify.specs.declared.places.Spot.{Spot}
 use Rattle.pr_roles.specs.declared.refusal.Refusal.{Refusal}
 use Rattle.pr_roles.specs.declared.refusal.Refusal.TheVariants.{NoArm, OutOfRole, OverBudget, Memory, NotSound}
@@ -27,27 +25,27 @@ use Rattle.pr_verify.specs.inside.Lacking.{HasAll, Lacks}
 use Rattle.pr_verify.specs.inside.Listing.{place_of}
 
 -- the view can be one of this scenario
-pub record IsMadeAs {S : Type 0} {sets : ViewSet S} (s : Scenario) (v : ViewOf S sets) : Type 0 where
+pub record IsMadeAs (s : Scenario) (v : KeptView) : Type 0 where
   pub keys : v.keys.items ≡ s.keys
   pub hosts : v.hosts ≡ length s.nexuses
 
 -- the views can be ones of this scenario, the host is one of its nexuses, and the script can stand in a text with its keys
-pub record CanCheck {S : Type 0} {sets : ViewSet S} (s : Scenario) (script : Stmts) (o : OutlineBy (ViewOf S sets)) : Type 0 where
+pub record CanCheck (s : Scenario) (script : Stmts) (o : KeptOutline) : Type 0 where
   pub host : o.host < length s.nexuses
   pub written : script_fits s.keys script ≡ true
   pub made : IsMadeFor s o
 
 -- ---- a script and an outline, as the program has them
 
-abbrev pub IsSoundBy : {S : Type 0} {sets : ViewSet S} → Parts → Script → OutlineBy (ViewOf S sets) → Type 0
+abbrev pub IsSoundBy : Parts → Script → KeptOutline → Type 0
 IsSoundBy p script o = IsSound (scenario_of p) (script_of script) (outline_of o)
 
 -- the outline fits by each budget that the script is within
-abbrev pub FitsAnyBudget : {S : Type 0} {sets : ViewSet S} → Parts → Script → OutlineBy (ViewOf S sets) → Type 0
+abbrev pub FitsAnyBudget : Parts → Script → KeptOutline → Type 0
 FitsAnyBudget p script o = (budget : ℕ) → cost_of_all (script_of script) ≤ budget → IsFitting (scenario_of p) (script_of script) budget (outline_of o)
 
 -- by each such budget this is the first reason against it
-abbrev pub IsRefusedBy : {S : Type 0} {sets : ViewSet S} → Parts → Script → OutlineBy (ViewOf S sets) → Refusal → Type 0
+abbrev pub IsRefusedBy : Parts → Script → KeptOutline → Refusal → Type 0
 IsRefusedBy p script o refusal = (budget : ℕ) → cost_of_all (script_of script) ≤ budget → IsRefusal (scenario_of p) (script_of script) budget (outline_of o) refusal
 
 -- the script costs more than the budget, and the refusal says what
@@ -92,16 +90,16 @@ IsFirstMisfit s o n spots (Some refusal) = HasMisfit s o n spots refusal
 -- ---- classes without an arm
 
 -- one of the first n outcomes lands in no arm, with a reply of this class
-abbrev pub IsUnarmed : {S : Type 0} {sets : ViewSet S} → ℕ → List (Landing × ViewOf S sets) → Class → Type 0
+abbrev pub IsUnarmed : ℕ → List (Landing × KeptView) → Class → Type 0
 IsUnarmed n outcomes class = Among n outcomes (λ o. o.0 ≡ landing.NoArm class)
 
-pub record IsFirstClass {S : Type 0} {sets : ViewSet S} (from n : ℕ) (outcomes : List (Landing × ViewOf S sets)) (class : Class) : Type 0 where
+pub record IsFirstClass (from n : ℕ) (outcomes : List (Landing × KeptView)) (class : Class) : Type 0 where
   pub is : IsUnarmed n outcomes class
   pub late : from ≤ class_number class
   pub first : (other : Class) → IsUnarmed n outcomes other → from ≤ class_number other → class_number class ≤ class_number other
 
 -- of the classes with which one lands in no arm, the first that has this number or a greater one, if there is one
-abbrev pub IsFirstUnarmed : {S : Type 0} {sets : ViewSet S} → ℕ → ℕ → List (Landing × ViewOf S sets) → Option Class → Type 0
+abbrev pub IsFirstUnarmed : ℕ → ℕ → List (Landing × KeptView) → Option Class → Type 0
 IsFirstUnarmed from n outcomes None = (class : Class) → IsUnarmed n outcomes class → from ≤ class_number class → ⊥
 IsFirstUnarmed from n outcomes (Some class) = IsFirstClass from n outcomes class
 

@@ -5,13 +5,13 @@ use Rattle.pr_verify.proofs.lacking.first_lacking.Goals.{then-not-has_within, el
 use Rattle.pr_verify.proofs.lacking.first_lacking.Goals as goal
 
 pub loop-line-init : goal.loop-line-init
-loop-line-init g c =
+loop-line-init c =
     let o = outline_of c.args.outline.now in
     let w = view_of c.args.outline.now.host c.args.known.now in
     least_none (HasAt o w c.args.lines.now) (LacksAt o w c.args.lines.now) c.args.lines.now
 
 pub loop-line-preserved : goal.loop-line-preserved
-loop-line-preserved g c =
+loop-line-preserved c =
     let o = outline_of c.args.outline.now in
     let v = view_of c.args.outline.now.host c.args.known.now in
     let n = c.loop-line.line-index in
@@ -23,6 +23,6 @@ loop-line-preserved g c =
     ]
 
 pub returns : goal.returns
-returns g c =
+returns c =
     let whole : c.loop-line.line-index ≡ length c.args.lines.now = omega arith in
     missing_all (outline_of c.args.outline.now) (view_of c.args.outline.now.host c.args.known.now) c.args.lines.now c.loop-line.line-index c.loop-line.first whole c.loop-line.invariant

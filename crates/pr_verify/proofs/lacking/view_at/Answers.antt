@@ -3,10 +3,10 @@ use Rattle.pr_verify.proofs.lemmas.Outlines.Lookups.{entries, view_at_found, vie
 use Rattle.pr_verify.proofs.lacking.view_at.Goals as goal
 
 pub loop-at-init : goal.loop-at-init
-loop-at-init g c k d small = absurd (omega arith)
+loop-at-init c k d small = absurd (omega arith)
 
 pub returns-then-at-line-clause-value : goal.returns-then-at-line-clause-value
-returns-then-at-line-clause-value g c =
+returns-then-at-line-clause-value c =
     let f = view_of c.args.outline.now.host in
     let xs = c.deref-at-items.result.now in
     let x = c.loop-at-item.result in
@@ -15,12 +15,12 @@ returns-then-at-line-clause-value g c =
     ∙ ap (λ e. Some (f e.1)) (sym c.loop-at-item.is)
 
 pub loop-at-preserved : goal.loop-at-preserved
-loop-at-preserved g c =
+loop-at-preserved c =
     other_more (view_of c.args.outline.now.host) c.deref-at-items.result.now c.args.line c.loop-at.at-index c.loop-at-item.result c.loop-at-test.true c.loop-at-item.is c.if-at-line.false
     c.loop-at.invariant
 
 pub returns-clause-value : goal.returns-clause-value
-returns-clause-value g c =
+returns-clause-value c =
     let f = view_of c.args.outline.now.host in
     ap (λ es. view_at (entries f es) c.args.line) (sym c.deref-at-items.ensures.value)
     ∙ view_at_none f c.deref-at-items.result.now c.args.line c.loop-at.at-index c.loop-at-test.false c.loop-at.invariant

@@ -1,73 +1,59 @@
 -- The answer to an equal question is the answer.
-use Rattle.pr_verify.proofs.Common.{◌≡◌, ℕ, ◌<◌, List, [], ◌∷◌, ◌++◌, map, length, get_or, slice_get, Some, All, sym, refl, ap, ◌∙◌, subst, same_Some, slice_get_within, slice_get-get_or, slice_get_read, Command, Test, Refusals, scope_of, view_of, AreAlike, ViewOf, AreOutcomes, Landing, Answer, Spot, IsAnswerTo, AreAnswersTo, IsOf, IsAnswer, AreEqual, place_of, IsPlaceWritten}
-use Rattle.pr_sets.specs.declared.view_set.ViewSet.{Ghosts as ViewSet}
-use Rattle.pr_domain.proofs.lemmas.Reporting.FoundWords.{same_outcomes}
+use Rattle.pr_verify.proofs.Common.{◌≡◌, ℕ, ◌<◌, List, [], ◌∷◌, ◌++◌, map, length, get_or, slice_get, Some, All, sym, refl, ap, ◌∙◌, subst, same_Some, slice_get_within, slice_get-get_or, slice_get_read, Test, Refusals, view_of, AreAlike, KeptView, AreOutcomes, Landing, Answer, Spot, IsAnswerTo, AreAnswersTo, IsOf, IsAnswer, AreEqual, place_of, IsPlaceWritten, View}
 use Rattle.pr_verify.specs.declared.answers.Questions.{Questions}
-use Rattle.pr_verify.specs.inside.Asked.{scenario_in, refusals_for, AreMade, IsSameQuestion, IsAnswered, IsAskedBefore, IsAnsweredAt}
+use Rattle.pr_verify.specs.inside.Asked.{scenario_in, refusals_for, IsSameQuestion, IsAnswered, IsAskedBefore, IsAnsweredAt}
 use Rattle.pr_verify.specs.inside.Known.{ComesTo, AskTheSame, IsAnswerAt}
 use Rattle.pr_verify.proofs.lemmas.Rooms.MappedLists.{element}
-use Rattle.pr_verify.proofs.lemmas.Known.Recollection.{found, read_is, answer_is, answered_at}
+use Rattle.pr_verify.proofs.lemmas.Known.Recollection.{found, comes_to_same, read_is, answer_is, answered_at}
 use Rattle.pr_verify.proofs.lemmas.Outlines.LineOrder.{as_many, view_at_same}
 use Rattle.pr_verify.proofs.lemmas.Inferring.Sketches.{item_is}
-
--- ---- views
-
--- what comes of one view comes of an equal one, where the same is sent
-comes_to_equal : {S : Type 0} {sets : ViewSet S} (own : ℕ) (d : Refusals) (v w : ViewOf S sets) (p q : Spot) (outcomes : List (Landing × ViewOf S sets)) → v.keys.items ≡ w.keys.items → v.hosts ≡ w.hosts
-    → AreEqual v w → AskTheSame p q → ComesTo own d v p outcomes → ComesTo own d w q outcomes
-comes_to_equal {S} {sets} own d v w p q outcomes keys hosts equal same is =
-    let them = map (λ (o : Landing × ViewOf S sets). (o.0, view_of own o.1)) outcomes in
-    let scope : scope_of own v ≡ scope_of own w = λ i. record { own = own; hosts = hosts i; keys = keys i } in
-    same_outcomes (view_of own v) (view_of own w) d q.command q.tests.items them scope (equal.there own) (equal.back own)
-    (subst (λ (ts : List Test). AreOutcomes (view_of own v) d q.command ts them) same.tests
-    (subst (λ (c : Command). AreOutcomes (view_of own v) d c p.tests.items them) same.command is))
 
 -- ---- questions
 
 -- the host is one of those of which a view speaks that can be one of the scenario
-pub own_there : {S : Type 0} {sets : ViewSet S} (q : Questions (ViewOf S sets)) (v : ViewOf S sets) → v.hosts ≡ length (scenario_in q).nexuses → q.outline.now.host < v.hosts
+pub own_there : (q : Questions) (v : KeptView) → v.hosts ≡ length (scenario_in q).nexuses → q.outline.now.host < v.hosts
 own_there q v same = subst (λ n. q.outline.now.host < n) (sym same) q.declared
 
 -- there is a view for each send
-each : {S : Type 0} {sets : ViewSet S} (q : Questions (ViewOf S sets)) → length q.outline.now.views.items ≡ length q.spots.now
+each : (q : Questions) → length q.outline.now.views.items ≡ length q.spots.now
 each q = as_many (λ (p : Spot). p.line) q.outline.now.views.items q.spots.now q.listed
 
-pub has_view : {S : Type 0} {sets : ViewSet S} (q : Questions (ViewOf S sets)) (place : ℕ) → place < length q.spots.now → place < length q.outline.now.views.items
+pub has_view : (q : Questions) (place : ℕ) → place < length q.spots.now → place < length q.outline.now.views.items
 has_view q place small = subst (λ n. place < n) (sym (each q)) small
 
 -- the same is asked at two places, by what is read there
-pub same_question : {S : Type 0} {sets : ViewSet S} (q : Questions (ViewOf S sets)) (place other : ℕ) → place < length q.spots.now → other < length q.spots.now
+pub same_question : (q : Questions) (place other : ℕ) → place < length q.spots.now → other < length q.spots.now
     → (p r : Spot) → p ≡ get_or q.spots.now place p → r ≡ get_or q.spots.now other r → AskTheSame p r
-    → (d e : ℕ × ViewOf S sets) → d ≡ get_or q.outline.now.views.items place d → e ≡ get_or q.outline.now.views.items other e → AreEqual d.1 e.1 → IsSameQuestion q place other
-same_question {S} {sets} q place other one two p r here there same d e shown also equal = record {
+    → (d e : ℕ × KeptView) → d ≡ get_or q.outline.now.views.items place d → e ≡ get_or q.outline.now.views.items other e → AreEqual d.1 e.1 → IsSameQuestion q place other
+same_question q place other one two p r here there same d e shown also equal = record {
   sends = λ x y is too.
       subst (λ (z : Spot). AskTheSame z y) (at q.spots.now place p x one here is) (subst (AskTheSame p) (at q.spots.now other r y two there too) same);
   views = λ x y is too.
-      subst (λ (z : ℕ × ViewOf S sets). AreEqual z.1 y.1) (at q.outline.now.views.items place d x (has_view q place one) shown is)
-      (subst (λ (z : ℕ × ViewOf S sets). AreEqual d.1 z.1) (at q.outline.now.views.items other e y (has_view q other two) also too) equal);
+      subst (λ (z : ℕ × KeptView). AreEqual z.1 y.1) (at q.outline.now.views.items place d x (has_view q place one) shown is)
+      (subst (λ (z : ℕ × KeptView). AreEqual d.1 z.1) (at q.outline.now.views.items other e y (has_view q other two) also too) equal);
 }
   where
     at : {X : Type 0} (xs : List X) (k : ℕ) (x y : X) → k < length xs → x ≡ get_or xs k x → slice_get xs k ≡ Some y → x ≡ y
     at xs k x y small read is = same_Some x y (sym (slice_get_read xs (length xs) k x refl small read) ∙ is)
 
-module _ {S : Type 0} {sets : ViewSet S} (q : Questions (ViewOf S sets)) (asked : AreMade q) (place : ℕ) (small : place < length q.spots.now) where
+module _ (q : Questions) (place : ℕ) (small : place < length q.spots.now) where
   viewed : place < length q.outline.now.views.items
   viewed = has_view q place small
 
-  pub kind_at : (e : ℕ × ViewOf S sets) → e ≡ get_or q.outline.now.views.items place e → IsOf (scenario_in q).keys (length (scenario_in q).nexuses) e.1
-  kind_at e read = item_is (λ (x : ℕ × ViewOf S sets). IsOf (scenario_in q).keys (length (scenario_in q).nexuses) x.1) q.outline.now.views.items place e asked viewed read
+  pub kind_at : (e : ℕ × KeptView) → e ≡ get_or q.outline.now.views.items place e → IsOf (scenario_in q).keys (length (scenario_in q).nexuses) e.1
+  kind_at e read = item_is (λ (x : ℕ × KeptView). IsOf (scenario_in q).keys (length (scenario_in q).nexuses) x.1) q.outline.now.views.items place e q.made viewed read
 
   -- in the words of the view there
-  pub host_at : (e : ℕ × ViewOf S sets) → e ≡ get_or q.outline.now.views.items place e → q.outline.now.host < e.1.hosts
+  pub host_at : (e : ℕ × KeptView) → e ≡ get_or q.outline.now.views.items place e → q.outline.now.host < e.1.hosts
   host_at e read = own_there q e.1 (kind_at e read).1
 
-  pub written_at : (p : Spot) (e : ℕ × ViewOf S sets) → p ≡ get_or q.spots.now place p → e ≡ get_or q.outline.now.views.items place e → IsPlaceWritten e.1.keys.items (place_of p)
+  pub written_at : (p : Spot) (e : ℕ × KeptView) → p ≡ get_or q.spots.now place p → e ≡ get_or q.outline.now.views.items place e → IsPlaceWritten e.1.keys.items (place_of p)
   written_at p e read also =
       subst (λ keys. IsPlaceWritten keys (place_of p)) (sym (kind_at e also).0)
       (item_is (λ r. IsPlaceWritten (scenario_in q).keys (place_of r)) q.spots.now place p q.written small read)
 
   -- an answer that was found
-  pub recalled : (known : List (Answer (ViewOf S sets))) (k : ℕ) → AreAnswersTo q known → IsAskedBefore q place known k → IsAnsweredAt q place known k
+  pub recalled : (known : List Answer) (k : ℕ) → AreAnswersTo q known → IsAskedBefore q place known k → IsAnsweredAt q place known k
   recalled known k all before p e here shown =
       let a = before.answer in
       let to = found (IsAnswerTo q) known k a all before.there in
@@ -77,20 +63,18 @@ module _ {S : Type 0} {sets : ViewSet S} (q : Questions (ViewOf S sets)) (asked 
       let is = to.answer d there in
       let r = get_or q.spots.now a.spot p in
       let sent : slice_get q.spots.now a.spot ≡ Some r = slice_get-get_or q.spots.now a.spot p to.there in
-      let one : IsOf (scenario_in q).keys (length (scenario_in q).nexuses) d.1 = found (λ (x : ℕ × ViewOf S sets). IsOf (scenario_in q).keys (length (scenario_in q).nexuses) x.1) views a.spot d asked there in
-      let two : IsOf (scenario_in q).keys (length (scenario_in q).nexuses) e.1 = found (λ (x : ℕ × ViewOf S sets). IsOf (scenario_in q).keys (length (scenario_in q).nexuses) x.1) views place e asked shown in
-      let keys : d.1.keys.items ≡ e.1.keys.items = one.0 ∙ sym two.0 in
-      let hosts : d.1.hosts ≡ e.1.hosts = one.1 ∙ sym two.1 in
+      let equal = before.same.views d e there shown in
       record {
         answer = a;
         there = before.there;
-        kind = λ i x within. let of = is.kind i x within in (of.0 ∙ keys, of.1 ∙ hosts);
-        outcomes = comes_to_equal q.outline.now.host (refusals_for q) d.1 e.1 r p a.outcomes.items keys hosts (before.same.views d e there shown) (before.same.sends r p sent here) (is.outcomes r sent);
+        kind = λ i x within. let of = is.kind i x within in (of.0 ∙ ap (λ (w : View). w.scope.keys) (equal 0), of.1 ∙ ap (λ (w : View). w.scope.hosts) (equal 0));
+        outcomes = subst (λ (x : View). AreOutcomes x (refusals_for q) p.command p.tests.items (map (λ o. (o.0, view_of q.outline.now.host o.1)) a.outcomes.items)) (equal q.outline.now.host)
+            (comes_to_same q.outline.now.host (refusals_for q) q.spots.now d.1 r p a.outcomes.items (before.same.sends r p sent here) (is.outcomes r sent));
       }
 
   -- what is answered is there
-  module _ (known : List (Answer (ViewOf S sets))) (k : ℕ) (at : IsAnsweredAt q place known k) where
-    answer_for : (p : Spot) (e : ℕ × ViewOf S sets) → p ≡ get_or q.spots.now place p → e ≡ get_or q.outline.now.views.items place e → IsAnswerAt q.outline.now.host (refusals_for q) p e.1 known k
+  module _ (known : List Answer) (k : ℕ) (at : IsAnsweredAt q place known k) where
+    answer_for : (p : Spot) (e : ℕ × KeptView) → p ≡ get_or q.spots.now place p → e ≡ get_or q.outline.now.views.items place e → IsAnswerAt q.outline.now.host (refusals_for q) p e.1 known k
     answer_for p e sent shown =
         at p e (slice_get_read q.spots.now (length q.spots.now) place p refl small sent)
         (slice_get_read q.outline.now.views.items (length q.outline.now.views.items) place e refl viewed shown)
@@ -102,16 +86,16 @@ module _ {S : Type 0} {sets : ViewSet S} (q : Questions (ViewOf S sets)) (asked 
         let is = answer_for p.0 e.0 (sym p.1) (sym e.1) in slice_get_within known k is.answer is.there
 
     -- the outcomes that are read there
-    module _ (p : Spot) (e : ℕ × ViewOf S sets) (sent : p ≡ get_or q.spots.now place p) (shown : e ≡ get_or q.outline.now.views.items place e) (a : Answer (ViewOf S sets)) (read : a ≡ get_or known k a)
-        (xs : List (Landing × ViewOf S sets)) (same : xs ≡ a.outcomes.items) where
+    module _ (p : Spot) (e : ℕ × KeptView) (sent : p ≡ get_or q.spots.now place p) (shown : e ≡ get_or q.outline.now.views.items place e) (a : Answer) (read : a ≡ get_or known k a)
+        (xs : List (Landing × KeptView)) (same : xs ≡ a.outcomes.items) where
       the_outcomes : xs ≡ (answer_for p e sent shown).answer.outcomes.items
       the_outcomes =
           let is = answer_for p e sent shown in
-          same ∙ ap (λ (b : Answer (ViewOf S sets)). b.outcomes.items) (read_is known k is.answer a is.there read)
+          same ∙ ap (λ (b : Answer). b.outcomes.items) (read_is known k is.answer a is.there read)
 
       pub kind_read : All (λ o. AreAlike e.1 o.1) xs
       kind_read =
-          subst (All (λ (o : Landing × ViewOf S sets). AreAlike e.1 o.1)) (sym the_outcomes)
+          subst (All (λ (o : Landing × KeptView). AreAlike e.1 o.1)) (sym the_outcomes)
           (λ i x within. let of = (answer_for p e sent shown).kind i x within in record { keys = sym of.0; hosts = sym of.1 })
 
       outcomes_read : ComesTo q.outline.now.host (refusals_for q) e.1 p xs
@@ -127,21 +111,21 @@ module _ {S : Type 0} {sets : ViewSet S} (q : Questions (ViewOf S sets)) (asked 
       }
 
   -- a new answer
-  module _ (p : Spot) (e : ℕ × ViewOf S sets) (sent : p ≡ get_or q.spots.now place p) (shown : e ≡ get_or q.outline.now.views.items place e) (a : Answer (ViewOf S sets)) (asks : a.spot ≡ place)
+  module _ (p : Spot) (e : ℕ × KeptView) (sent : p ≡ get_or q.spots.now place p) (shown : e ≡ get_or q.outline.now.views.items place e) (a : Answer) (asks : a.spot ≡ place)
       (made : All (λ o. AreAlike e.1 o.1) a.outcomes.items) (tests : List Test) (same : tests ≡ p.tests.items)
       (d : Refusals) (may : d ≡ refusals_for q) (outcomes : AreOutcomes (view_of q.outline.now.host e.1) d p.command tests (map (λ o. (o.0, view_of q.outline.now.host o.1)) a.outcomes.items)) where
-    the_entry : (x : ℕ × ViewOf S sets) → slice_get q.outline.now.views.items place ≡ Some x → e ≡ x
+    the_entry : (x : ℕ × KeptView) → slice_get q.outline.now.views.items place ≡ Some x → e ≡ x
     the_entry x is = same_Some e x (sym (slice_get_read q.outline.now.views.items (length q.outline.now.views.items) place e refl viewed shown) ∙ is)
 
     pub answer_to : IsAnswerTo q a
     answer_to = record {
       there = subst (λ n. n < length q.spots.now) (sym asks) small;
       answer = λ x is.
-          subst (λ (y : ℕ × ViewOf S sets). IsAnswer q.outline.now.host (refusals_for q) q.spots.now y.1 a) (the_entry x (ap (slice_get q.outline.now.views.items) (sym asks) ∙ is))
+          subst (λ (y : ℕ × KeptView). IsAnswer q.outline.now.host (refusals_for q) q.spots.now y.1 a) (the_entry x (ap (slice_get q.outline.now.views.items) (sym asks) ∙ is))
           (answer_is q.outline.now.host (refusals_for q) q.spots.now e.1 place p a small sent asks made tests same d may outcomes);
     }
 
-    pub answered_now : (old known : List (Answer (ViewOf S sets))) (n : ℕ) → known ≡ old ++ a ∷ [] → n ≡ length old → IsAnsweredAt q place known n
+    pub answered_now : (old known : List Answer) (n : ℕ) → known ≡ old ++ a ∷ [] → n ≡ length old → IsAnsweredAt q place known n
     answered_now old known n pushed count r x here is =
-        subst (λ (y : ℕ × ViewOf S sets). IsAnswerAt q.outline.now.host (refusals_for q) r y.1 known n) (the_entry x is)
+        subst (λ (y : ℕ × KeptView). IsAnswerAt q.outline.now.host (refusals_for q) r y.1 known n) (the_entry x is)
         (answered_at q.outline.now.host (refusals_for q) q.spots.now e.1 place p a small sent asks made tests same d may outcomes old known n pushed count r here)

@@ -1,11 +1,10 @@
 -- The first line at which a view is missing.
-use Rattle.pr_verify.proofs.Common.{◌≡◌, ℕ, ◌+◌, ◌<◌, Bool, true, false, ◌↔◌, List, map, length, IsTrue, slice_index_or, Some, All, Contains, Option, sym, refl, ◌∙◌, subst, arith, false≢true, get_or_default, All-map, All-contains, View, ViewOf, Among, IsWithinIn, Outline, view_at, HasView, IsFirst, IsLeast, least, EachOf, IsLeastAmong}
-use Rattle.pr_sets.specs.declared.view_set.ViewSet.{Ghosts as ViewSet}
+use Rattle.pr_verify.proofs.Common.{◌≡◌, ℕ, ◌+◌, ◌<◌, Bool, true, false, ◌↔◌, List, map, length, IsTrue, slice_index_or, Some, All, Contains, Option, sym, refl, ◌∙◌, subst, arith, false≢true, get_or_default, All-map, All-contains, View, KeptView, Among, IsWithinIn, Outline, view_at, HasView, IsFirst, IsLeast, least, EachOf, IsLeastAmong}
 use Rattle.pr_verify.specs.inside.Lacking.{LacksView}
 use Rattle.pr_verify.proofs.lemmas.Least.FirstLines.{least_as, least_more, least_same}
 
 -- what holds of the views of all entries holds of one of them
-pub of_entry : {S : Type 0} {sets : ViewSet S} (P : ViewOf S sets → Type 0) (xs : List (ℕ × ViewOf S sets)) (v : ViewOf S sets) → All (λ e. P e.1) xs → Contains (map (λ e. e.1) xs) v → P v
+pub of_entry : (P : KeptView → Type 0) (xs : List (ℕ × KeptView)) (v : KeptView) → All (λ e. P e.1) xs → Contains (map (λ e. e.1) xs) v → P v
 of_entry P xs v all there = All-contains P (map (λ e. e.1) xs) v (All-map P (λ e. e.1) xs all) there
 
 module _ (o : Outline) (w : View) (lines : List ℕ) where

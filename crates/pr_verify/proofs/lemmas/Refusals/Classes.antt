@@ -1,7 +1,6 @@
 -- Classes of replies, one after another.
-use Rattle.pr_verify.proofs.Common.{◌≡◌, ℕ, ◌+◌, ◌<◌, ◌≤◌, Bool, true, false, ◌⊎◌, List, length, if◌then◌else◌, nat_le, slice_index_or, Some, None, Option, sym, refl, ap, ◌∙◌, subst, inl, inr, arith, leb-true, ViewOf, Class, Landing, NoArm, class_number, IsUnarmed, IsFirstUnarmed}
+use Rattle.pr_verify.proofs.Common.{◌≡◌, ℕ, ◌+◌, ◌<◌, ◌≤◌, Bool, true, false, ◌⊎◌, List, length, if◌then◌else◌, nat_le, slice_index_or, Some, None, Option, sym, refl, ap, ◌∙◌, subst, inl, inr, arith, leb-true, KeptView, Class, Landing, NoArm, class_number, IsUnarmed, IsFirstUnarmed}
 use Rattle.std.proofs.lemmas.Bool.{leb-false}
-use Rattle.pr_sets.specs.declared.view_set.ViewSet.{Ghosts as ViewSet}
 use Rattle.pr_verify.specs.inside.Reviewing.{IsFirstClass, earlier, earlier_from}
 use Rattle.pr_interference.proofs.lemmas.Interfering.Additions.{among_there, among_back}
 
@@ -15,18 +14,18 @@ earlier_is first class = at (nat_le (class_number first) (class_number class)) r
     at true is = inl (refl, leb-true (class_number first) (class_number class) is)
     at false is = inr (refl, let less = leb-false (class_number first) (class_number class) is in omega arith)
 
-module _ {S : Type 0} {sets : ViewSet S} (xs : List (Landing × ViewOf S sets)) (from : ℕ) where
+module _ (xs : List (Landing × KeptView)) (from : ℕ) where
   pub unarmed_none : IsFirstUnarmed from 0 xs None
   unarmed_none class one late = let e = one.below in absurd (omega arith)
 
-  more : (n : ℕ) (x : Landing × ViewOf S sets) (class : Class) → n < length xs → x ≡ slice_index_or xs n x → IsUnarmed n xs class ⊎ (x.0 ≡ NoArm class) → IsUnarmed (n + 1) xs class
+  more : (n : ℕ) (x : Landing × KeptView) (class : Class) → n < length xs → x ≡ slice_index_or xs n x → IsUnarmed n xs class ⊎ (x.0 ≡ NoArm class) → IsUnarmed (n + 1) xs class
   more n x class small read = among_there (λ o. o.0 ≡ NoArm class) xs n x read
 
-  back : (n : ℕ) (x : Landing × ViewOf S sets) (class : Class) → n < length xs → x ≡ slice_index_or xs n x → IsUnarmed (n + 1) xs class → IsUnarmed n xs class ⊎ (x.0 ≡ NoArm class)
+  back : (n : ℕ) (x : Landing × KeptView) (class : Class) → n < length xs → x ≡ slice_index_or xs n x → IsUnarmed (n + 1) xs class → IsUnarmed n xs class ⊎ (x.0 ≡ NoArm class)
   back n x class small read = among_back (λ o. o.0 ≡ NoArm class) xs n x small read
 
   -- one that does not count
-  pub unarmed_same : (n : ℕ) (x : Landing × ViewOf S sets) (first : Option Class) → n < length xs → x ≡ slice_index_or xs n x → ((class : Class) → x.0 ≡ NoArm class → from ≤ class_number class → ⊥)
+  pub unarmed_same : (n : ℕ) (x : Landing × KeptView) (first : Option Class) → n < length xs → x ≡ slice_index_or xs n x → ((class : Class) → x.0 ≡ NoArm class → from ≤ class_number class → ⊥)
       → IsFirstUnarmed from n xs first → IsFirstUnarmed from (n + 1) xs first
   unarmed_same n x None small read armed none = λ class one late. at class late (back n x class small read one)
     where
@@ -44,7 +43,7 @@ module _ {S : Type 0} {sets : ViewSet S} (xs : List (Landing × ViewOf S sets)) 
       at other late (inr here) = absurd (armed other here late)
 
   -- one that lands in none, and counts
-  unarmed_counts : (n : ℕ) (x : Landing × ViewOf S sets) (first : Option Class) (class : Class) → n < length xs → x ≡ slice_index_or xs n x → x.0 ≡ NoArm class → from ≤ class_number class
+  unarmed_counts : (n : ℕ) (x : Landing × KeptView) (first : Option Class) (class : Class) → n < length xs → x ≡ slice_index_or xs n x → x.0 ≡ NoArm class → from ≤ class_number class
       → IsFirstUnarmed from n xs first → IsFirstUnarmed from (n + 1) xs (Some (earlier first class))
   unarmed_counts n x None class small read is late none = record {
     is = more n x class small read (inr is);
@@ -75,7 +74,7 @@ module _ {S : Type 0} {sets : ViewSet S} (xs : List (Landing × ViewOf S sets)) 
       })
 
   -- one that lands in none
-  pub unarmed_more : (n : ℕ) (x : Landing × ViewOf S sets) (first : Option Class) (class : Class) → n < length xs → x ≡ slice_index_or xs n x → x.0 ≡ NoArm class → IsFirstUnarmed from n xs first
+  pub unarmed_more : (n : ℕ) (x : Landing × KeptView) (first : Option Class) (class : Class) → n < length xs → x ≡ slice_index_or xs n x → x.0 ≡ NoArm class → IsFirstUnarmed from n xs first
       → IsFirstUnarmed from (n + 1) xs (earlier_from from first class)
   unarmed_more n x first class small read is before = at (nat_le from (class_number class)) refl
     where

@@ -1,7 +1,6 @@
 -- Whether a place fits, by the outcomes of its command.
-use Rattle.pr_verify.proofs.Common.{◌≡◌, ℕ, ◌≤◌, true, false, ◌↔◌, List, [], map, length, is_some, IsTrue, slice_get, Some, Contains, option_and_then, sym, refl, ap, ◌∙◌, subst, arith, position-Some, slice_get-get_or, Reply, Plain, Step, UnitState, matches, Answered, refusals_of, command_permitted, role, Scenario, view_of, View, Shows, ViewOf, IsLanding, Outcome, IsExpected, AreOutcomes, IsPermittedIn, IsRefusedIn, Class, Landing, NoArm, Arm, Outline, view_at, ShowsIn, IsShownAt, KeepsToRole, Place, follows, BreaksRole, class_number, IsUnarmed, none-some}
+use Rattle.pr_verify.proofs.Common.{◌≡◌, ℕ, ◌≤◌, true, false, ◌↔◌, List, [], map, length, is_some, IsTrue, slice_get, Some, Contains, option_and_then, sym, refl, ap, ◌∙◌, subst, arith, position-Some, slice_get-get_or, Reply, Plain, Step, UnitState, matches, Answered, refusals_of, command_permitted, role, Scenario, view_of, View, Shows, KeptView, IsLanding, Outcome, IsExpected, AreOutcomes, IsPermittedIn, IsRefusedIn, Class, Landing, NoArm, Arm, Outline, view_at, ShowsIn, IsShownAt, KeepsToRole, Place, follows, BreaksRole, class_number, IsUnarmed, none-some}
 use Rattle.pr_script.specs.declared.script.Test.TheVariants as test
-use Rattle.pr_sets.specs.declared.view_set.ViewSet.{Ghosts as ViewSet}
 use Rattle.pr_regions.specs.Readings.{first_test}
 use Rattle.pr_verify.specs.Outlines.{HasArms}
 use Rattle.pr_verify.specs.Refusals.{LacksArm, LacksArmFirst}
@@ -65,8 +64,8 @@ module _ (s : Scenario) (o : Outline) (p : Place) (v : View) (here : IsHere o p 
 
   -- ---- the arms
 
-  module _ {S : Type 0} {sets : ViewSet S} (own : ℕ) (xs : List (Landing × ViewOf S sets)) (are : AreOutcomes v (refusals_of s o.host) p.command p.tests (map (λ x. (x.0, view_of own x.1)) xs)) where
-    outcome_of : Landing × ViewOf S sets → Outcome
+  module _ (own : ℕ) (xs : List (Landing × KeptView)) (are : AreOutcomes v (refusals_of s o.host) p.command p.tests (map (λ x. (x.0, view_of own x.1)) xs)) where
+    outcome_of : Landing × KeptView → Outcome
     outcome_of x = (x.0, view_of own x.1)
 
     -- an outcome that is listed is one of the found

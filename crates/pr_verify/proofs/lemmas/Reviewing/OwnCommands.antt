@@ -1,12 +1,10 @@
 -- What the views lack of the states to which a host's own command leads, by the outcomes of the command.
-use Rattle.pr_verify.proofs.Common.{◌≡◌, ℕ, ◌<◌, List, map, length, slice_get, Some, None, All, Contains, Option, option_and_then, sym, refl, ap, ◌∙◌, subst, All-contains, Reply, Plain, UnitState, Answered, refusals_of, Scenario, Refusals, IsSo, view_of, AreAlike, View, Shows, Fits, ViewOf, fits, IsLanding, Outcome, IsExpected, AreOutcomes, Landing, NoArm, Arm, Among, Outline, view_at, IsShownAt, scope_in, ComesTo, Place, outline_of, IsMadeFor, OutlineBy, HasAll, Lacks, IsFirstLacking, HasView, lines_after, HasNext, LacksNext, EachOf, IsLeastAmong}
-use Rattle.pr_sets.specs.Numbers.{AllBelow}
-use Rattle.pr_sets.specs.declared.view_set.ViewSet.{Ghosts as ViewSet}
+use Rattle.pr_verify.proofs.Common.{◌≡◌, ℕ, ◌<◌, List, map, length, slice_get, Some, None, All, Contains, Option, option_and_then, sym, refl, ap, ◌∙◌, subst, All-contains, Reply, Plain, UnitState, Answered, refusals_of, Scenario, Refusals, IsSo, view_of, AreAlike, View, Shows, Fits, KeptView, IsLanding, Outcome, IsExpected, AreOutcomes, Landing, NoArm, Arm, Among, Outline, view_at, IsShownAt, scope_in, ComesTo, Place, outline_of, IsMadeFor, KeptOutline, HasAll, Lacks, IsFirstLacking, HasView, lines_after, HasNext, LacksNext, EachOf, IsLeastAmong}
 use Rattle.pr_verify.proofs.lemmas.Least.FirstLines.{least_as, each_listed, listed_among}
 use Rattle.pr_verify.proofs.lemmas.Rooms.MappedLists.{mapped, unmapped}
 use Rattle.pr_verify.proofs.lemmas.LeastOutlines.Possibilities.{IsExact, lacks_from_missing, shown_by_within}
 use Rattle.pr_verify.specs.inside.Reviewing.{IsMadeAs}
-use Rattle.pr_verify.proofs.lemmas.Reviewing.Starts.{AreScoped, scope_same, scope_alike, scoped}
+use Rattle.pr_verify.proofs.lemmas.Reviewing.Starts.{kept_fits, AreScoped, scope_same, scope_alike, scoped}
 use Rattle.pr_domain.proofs.lemmas.Tallies.Origins.{one_landing}
 use Rattle.pr_verify.proofs.lemmas.Reviewing.FittingPlaces.{IsHere, shown_here, shown_there, answer_own, answer_host}
 
@@ -19,19 +17,19 @@ record LeadsTo (d : Refusals) (v : View) (p : Place) (l : Landing) (after : Unit
   landing : IsLanding p.tests reply l
 
 module _ (s : Scenario) (o : Outline) (p : Place) (v : View) (here : IsHere o p v) (scopes : AreScoped o v.scope)
-    {S : Type 0} {sets : ViewSet S} (own : ℕ) (xs : List (Landing × ViewOf S sets)) (are : AreOutcomes v (refusals_of s o.host) p.command p.tests (map (λ x. (x.0, view_of own x.1)) xs))
-    (fits : (x : Landing × ViewOf S sets) → Contains xs x → Fits (view_of own x.1) × ((view_of own x.1).scope ≡ v.scope)) where
+    (own : ℕ) (xs : List (Landing × KeptView)) (are : AreOutcomes v (refusals_of s o.host) p.command p.tests (map (λ x. (x.0, view_of own x.1)) xs))
+    (fits : (x : Landing × KeptView) → Contains xs x → Fits (view_of own x.1) × ((view_of own x.1).scope ≡ v.scope)) where
   -- the outcome's view is within that at the line, if it leads there; or it is not
-  abbrev pub HasOf : Landing × ViewOf S sets → ℕ → Type 0
+  abbrev pub HasOf : Landing × KeptView → ℕ → Type 0
   HasOf x line = HasNext o (lines_after p.next x.0) (view_of own x.1) line
 
-  abbrev pub LacksOf : Landing × ViewOf S sets → ℕ → Type 0
+  abbrev pub LacksOf : Landing × KeptView → ℕ → Type 0
   LacksOf x line = LacksNext o (lines_after p.next x.0) (view_of own x.1) line
 
-  found : (x : Landing × ViewOf S sets) → Contains xs x → Contains {X = Outcome} (map (λ y. (y.0, view_of own y.1)) xs) (x.0, view_of own x.1)
+  found : (x : Landing × KeptView) → Contains xs x → Contains {X = Outcome} (map (λ y. (y.0, view_of own y.1)) xs) (x.0, view_of own x.1)
   found x there = mapped (λ y. (y.0, view_of own y.1)) xs x there
 
-  exact : (x : Landing × ViewOf S sets) → Contains xs x → IsExact (LeadsTo (refusals_of s o.host) v p x.0) (view_of own x.1)
+  exact : (x : Landing × KeptView) → Contains xs x → IsExact (LeadsTo (refusals_of s o.host) v p x.0) (view_of own x.1)
   exact x there = record {
     fits = (fits x there).0;
     cover = cover;
@@ -52,7 +50,7 @@ module _ (s : Scenario) (o : Outline) (p : Place) (v : View) (here : IsHere o p 
           let listed = subst (λ l. Contains {X = Outcome} (map (λ y. (y.0, view_of own y.1)) xs) (l, one.outcome.1)) same one.listed in
           subst (λ w. Shows w u) (are.once x.0 one.outcome.1 (view_of own x.1) listed (found x there)) one.shown
 
-  there_next : (x : Landing × ViewOf S sets) (line : ℕ) (l : Landing) (next : Option (List ℕ)) → Contains xs x → x.0 ≡ l → lines_after p.next l ≡ next → LacksNext o next (view_of own x.1) line → Lacks o (ComesTo s o p) line
+  there_next : (x : Landing × KeptView) (line : ℕ) (l : Landing) (next : Option (List ℕ)) → Contains xs x → x.0 ≡ l → lines_after p.next l ≡ next → LacksNext o next (view_of own x.1) line → Lacks o (ComesTo s o p) line
   there_next x line l None there is lines lacks = absurd lacks
   there_next x line (NoArm class) (Some next) there is lines lacks = let bad : None ≡ Some next = lines in cc
   there_next x line (Arm n) (Some next) there is lines lacks =
@@ -102,13 +100,13 @@ module _ (s : Scenario) (o : Outline) (p : Place) (v : View) (here : IsHere o p 
       all_shown (λ line one. there_next one.element line one.element.0 (lines_after p.next one.element.0) (listed_among (λ x. LacksOf x line) xs one) refl refl one.is)
 
 -- what the views of the outline lack, by what a send comes to in the view at its line
-pub lacks_by_send : {S : Type 0} {sets : ViewSet S} (below : (x : S) → AllBelow (sets.room x) (sets.members x)) (s : Scenario) (out : OutlineBy (ViewOf S sets)) (p : Place) (view : ViewOf S sets)
-    (xs : List (Landing × ViewOf S sets)) (first : Option ℕ) → out.host < length s.nexuses → IsMadeFor s out → IsMadeAs s view
+pub lacks_by_send : (s : Scenario) (out : KeptOutline) (p : Place) (view : KeptView)
+    (xs : List (Landing × KeptView)) (first : Option ℕ) → out.host < length s.nexuses → IsMadeFor s out → IsMadeAs s view
     → view_at (outline_of out).views p.line ≡ Some (view_of out.host view) → All (λ x. AreAlike view x.1) xs
     → AreOutcomes (view_of out.host view) (refusals_of s out.host) p.command p.tests (map (λ x. (x.0, view_of out.host x.1)) xs)
     → IsLeastAmong (length xs) xs (λ x. HasNext (outline_of out) (lines_after p.next x.0) (view_of out.host x.1)) (λ x. LacksNext (outline_of out) (lines_after p.next x.0) (view_of out.host x.1)) first
     → IsFirstLacking (outline_of out) (ComesTo s (outline_of out) p) first
-lacks_by_send {S} {sets} below s out p view xs first there made is here kind are least =
+lacks_by_send s out p view xs first there made is here kind are least =
     lacks_next s o p v (record { at = here; own = refl }) (subst (AreScoped o) (sym scope) (scoped s out made)) out.host xs are known first least
   where
     o : Outline
@@ -120,7 +118,7 @@ lacks_by_send {S} {sets} below s out p view xs first there made is here kind are
     scope : v.scope ≡ scope_in s out.host
     scope = scope_same s out.host view is.keys is.hosts
 
-    known : (x : Landing × ViewOf S sets) → Contains xs x → Fits (view_of out.host x.1) × ((view_of out.host x.1).scope ≡ v.scope)
+    known : (x : Landing × KeptView) → Contains xs x → Fits (view_of out.host x.1) × ((view_of out.host x.1).scope ≡ v.scope)
     known x listed =
-        let of = All-contains (λ (y : Landing × ViewOf S sets). AreAlike view y.1) xs x kind listed in
-        (fits below x.1 out.host (subst (λ n. out.host < n) (sym is.hosts ∙ of.hosts) there), scope_alike out.host view x.1 of)
+        let of = All-contains (λ (y : Landing × KeptView). AreAlike view y.1) xs x kind listed in
+        (kept_fits x.1 out.host (subst (λ n. out.host < n) (sym is.hosts ∙ of.hosts) there), scope_alike out.host view x.1 of)

@@ -1,8 +1,8 @@
 -- What the views lack of the allowed starts, and the scope of the views of an outline.
-use Rattle.pr_verify.proofs.Common.{◌≡◌, ℕ, ◌<◌, Bool, true, false, List, [], ◌∷◌, map, length, take, if◌then◌else◌, ◌==◌, slice_index_or, Some, None, All, Contains, Option, sym, refl, ap, ◌∙◌, subst, All-contains, Stmts, Scenario, IsAllowedStart, Scope, Registration, Reservation, Attentions, scope_of, view_of, AreAlike, View, Fits, Within, ViewOf, IsOfStart, Outline, view_at, scope_in, StartsAt, first_lines, outline_of, IsMadeFor, OutlineBy, HasAll, Lacks, IsFirstLacking, HasView, IsLeast}
+use Rattle.pr_verify.proofs.Common.{◌≡◌, ℕ, ◌<◌, Bool, true, false, List, [], ◌∷◌, map, length, take, if◌then◌else◌, ◌==◌, slice_index_or, Some, None, All, Contains, Option, sym, refl, ap, ◌∙◌, subst, Stmts, Scenario, IsAllowedStart, Scope, Item, Registration, Reservation, Attentions, scope_of, view_of, AreAlike, View, IsPossible, Fits, Within, KeptView, IsOfStart, Outline, view_at, scope_in, StartsAt, first_lines, outline_of, IsMadeFor, KeptOutline, HasAll, Lacks, IsFirstLacking, HasView, IsLeast}
 use Rattle.std.proofs.lemmas.List.Elements.{All-head, All-tail, All-weaker, All-take}
 use Rattle.pr_roles.specs.Starts.{CanStart}
-use Rattle.pr_sets.specs.declared.view_set.ViewSet.{Ghosts as ViewSet}
+use Rattle.pr_views.proofs.lemmas.Views.Values.{fits}
 use Rattle.pr_verify.specs.inside.Lacking.{CanCompare, LacksView}
 use Rattle.pr_verify.specs.inside.Reviewing.{IsMadeAs}
 use Rattle.pr_verify.proofs.lemmas.Least.FirstLines.{least_as}
@@ -10,72 +10,71 @@ use Rattle.pr_verify.proofs.lemmas.LeastOutlines.Possibilities.{IsExact, lacks_f
 
 -- ---- views of one scenario
 
-pub scope_same : {S : Type 0} {sets : ViewSet S} (s : Scenario) (own : ℕ) (v : ViewOf S sets) → v.keys.items ≡ s.keys → v.hosts ≡ length s.nexuses → scope_of own v ≡ scope_in s own
+pub scope_same : (s : Scenario) (own : ℕ) (v : KeptView) → v.keys.items ≡ s.keys → v.hosts ≡ length s.nexuses → scope_of own v ≡ scope_in s own
 scope_same s own v keys hosts = λ i. record { own = own; hosts = hosts i; keys = keys i }
 
-pub scope_alike : {S : Type 0} {sets : ViewSet S} (own : ℕ) (v w : ViewOf S sets) → AreAlike v w → scope_of own w ≡ scope_of own v
+pub scope_alike : (own : ℕ) (v w : KeptView) → AreAlike v w → scope_of own w ≡ scope_of own v
 scope_alike own v w same = λ i. record { own = own; hosts = (sym same.hosts) i; keys = (sym same.keys) i }
+
+-- its possibilities fit
+pub kept_fits : (v : KeptView) (own : ℕ) → own < v.hosts → Fits (view_of own v)
+kept_fits = fits (λ s. s.below)
 
 -- each view of the outline is of the scope
 abbrev pub AreScoped : Outline → Scope → Type 0
 AreScoped o s = (line : ℕ) (v : View) → view_at o.views line ≡ Some v → v.scope ≡ s
 
-module _ {S : Type 0} {sets : ViewSet S} where
-  scoped_in : (s : Scenario) (own : ℕ) (xs : List (ℕ × ViewOf S sets)) → All (λ e. (e.1.keys.items ≡ s.keys) × (e.1.hosts ≡ length s.nexuses)) xs
-      → (line : ℕ) (v : View) → view_at (map (λ e. (e.0, view_of own e.1)) xs) line ≡ Some v → v.scope ≡ scope_in s own
-  scoped_in s own [] all line v is = let bad : None ≡ Some v = is in cc
-  scoped_in s own (x ∷ xs) all line v is =
-      at (x.0 == line) refl is (scoped_in s own xs (All-tail (λ e. (e.1.keys.items ≡ s.keys) × (e.1.hosts ≡ length s.nexuses)) x xs all) line v)
-    where
-      at : (b : Bool) → (x.0 == line) ≡ b → (if b then Some (view_of own x.1) else view_at (map (λ e. (e.0, view_of own e.1)) xs) line) ≡ Some v
-          → (view_at (map (λ e. (e.0, view_of own e.1)) xs) line ≡ Some v → v.scope ≡ scope_in s own) → v.scope ≡ scope_in s own
-      at true same here rest =
-          let e : view_of own x.1 ≡ v = cc in
-          let made = All-head (λ e. (e.1.keys.items ≡ s.keys) × (e.1.hosts ≡ length s.nexuses)) x xs all in
-          ap (λ (w : View). w.scope) (sym e) ∙ scope_same s own x.1 made.0 made.1
-      at false other there rest = rest there
+scoped_in : (s : Scenario) (own : ℕ) (xs : List (ℕ × KeptView)) → All (λ e. (e.1.keys.items ≡ s.keys) × (e.1.hosts ≡ length s.nexuses)) xs
+    → (line : ℕ) (v : View) → view_at (map (λ e. (e.0, view_of own e.1)) xs) line ≡ Some v → v.scope ≡ scope_in s own
+scoped_in s own [] all line v is = let bad : None ≡ Some v = is in cc
+scoped_in s own (x ∷ xs) all line v is =
+    at (x.0 == line) refl is (scoped_in s own xs (All-tail (λ e. (e.1.keys.items ≡ s.keys) × (e.1.hosts ≡ length s.nexuses)) x xs all) line v)
+  where
+    at : (b : Bool) → (x.0 == line) ≡ b → (if b then Some (view_of own x.1) else view_at (map (λ e. (e.0, view_of own e.1)) xs) line) ≡ Some v
+        → (view_at (map (λ e. (e.0, view_of own e.1)) xs) line ≡ Some v → v.scope ≡ scope_in s own) → v.scope ≡ scope_in s own
+    at true same here rest =
+        let e : view_of own x.1 ≡ v = cc in
+        let made = All-head (λ e. (e.1.keys.items ≡ s.keys) × (e.1.hosts ≡ length s.nexuses)) x xs all in
+        ap (λ (w : View). w.scope) (sym e) ∙ scope_same s own x.1 made.0 made.1
+    at false other there rest = rest there
 
-  pub scoped : (s : Scenario) (o : OutlineBy (ViewOf S sets)) → IsMadeFor s o → AreScoped (outline_of o) (scope_in s o.host)
-  scoped s o made = scoped_in s o.host o.views.items made
+pub scoped : (s : Scenario) (o : KeptOutline) → IsMadeFor s o → AreScoped (outline_of o) (scope_in s o.host)
+scoped s o made = scoped_in s o.host o.views.items made
 
-  -- a view of the scenario is alike to each
-  pub alike : (s : Scenario) (o : OutlineBy (ViewOf S sets)) (v : ViewOf S sets) → IsMadeFor s o → v.keys.items ≡ s.keys → v.hosts ≡ length s.nexuses
-      → All (λ e. AreAlike v e.1) o.views.items
-  alike s o v made keys hosts =
-      All-weaker (λ e. (e.1.keys.items ≡ s.keys) × (e.1.hosts ≡ length s.nexuses)) (λ e. AreAlike v e.1)
-      (λ e is. record { keys = keys ∙ sym is.0; hosts = hosts ∙ sym is.1 }) o.views.items made
+-- a view of the scenario is alike to each
+pub alike : (s : Scenario) (o : KeptOutline) (v : KeptView) → IsMadeFor s o → v.keys.items ≡ s.keys → v.hosts ≡ length s.nexuses → All (λ e. AreAlike v e.1) o.views.items
+alike s o v made keys hosts =
+    All-weaker (λ e. (e.1.keys.items ≡ s.keys) × (e.1.hosts ≡ length s.nexuses)) (λ e. AreAlike v e.1)
+    (λ e is. record { keys = keys ∙ sym is.0; hosts = hosts ∙ sym is.1 }) o.views.items made
 
-  -- an entry that is read
-  pub entry_made : (s : Scenario) (o : OutlineBy (ViewOf S sets)) (xs : List (ℕ × ViewOf S sets)) (i : ℕ) (x : ℕ × ViewOf S sets) → xs ≡ o.views.items → IsMadeFor s o → i < length xs → x ≡ slice_index_or xs i x
-      → IsMadeAs s x.1
-  entry_made s o xs i x same made small read =
-      let at = subst (λ (e : ℕ × ViewOf S sets). (e.1.keys.items ≡ s.keys) × (e.1.hosts ≡ length s.nexuses)) (ap (λ ys. slice_index_or ys i x) (sym same) ∙ sym read)
-      (made i x (subst (λ ys. i < length ys) same small)) in
-      record { keys = at.0; hosts = at.1 }
+-- an entry that is read
+pub entry_made : (s : Scenario) (o : KeptOutline) (xs : List (ℕ × KeptView)) (i : ℕ) (x : ℕ × KeptView) → xs ≡ o.views.items → IsMadeFor s o → i < length xs → x ≡ slice_index_or xs i x
+    → IsMadeAs s x.1
+entry_made s o xs i x same made small read =
+    let at = subst (λ (e : ℕ × KeptView). (e.1.keys.items ≡ s.keys) × (e.1.hosts ≡ length s.nexuses)) (ap (λ ys. slice_index_or ys i x) (sym same) ∙ sym read)
+    (made i x (subst (λ ys. i < length ys) same small)) in
+    record { keys = at.0; hosts = at.1 }
 
-  -- the scope of a listed one
-  pub listed_scope : (s : Scenario) (o : OutlineBy (ViewOf S sets)) (x : ℕ × ViewOf S sets) → IsMadeFor s o → Contains o.views.items x → scope_of o.host x.1 ≡ scope_in s o.host
-  listed_scope s o x made there =
-      let is = All-contains (λ e. (e.1.keys.items ≡ s.keys) × (e.1.hosts ≡ length s.nexuses)) o.views.items x made there in
-      scope_same s o.host x.1 is.0 is.1
+-- it can be compared with those before it
+pub compared_before : (s : Scenario) (o : KeptOutline) (xs : List (ℕ × KeptView)) (i : ℕ) (v : KeptView) → xs ≡ o.views.items → IsMadeFor s o → IsMadeAs s v → CanCompare (take i xs) v
+compared_before s o xs i v same made is =
+    All-take (λ e. AreAlike v e.1) i xs (subst (All (λ e. AreAlike v e.1)) (sym same) (alike s o v made is.keys is.hosts))
 
-  -- it can be compared with those before it
-  pub compared_before : (s : Scenario) (o : OutlineBy (ViewOf S sets)) (xs : List (ℕ × ViewOf S sets)) (i : ℕ) (v : ViewOf S sets) → xs ≡ o.views.items → IsMadeFor s o → IsMadeAs s v → CanCompare (take i xs) v
-  compared_before s o xs i v same made is =
-      All-take (λ e. AreAlike v e.1) i xs (subst (All (λ e. AreAlike v e.1)) (sym same) (alike s o v made is.keys is.hosts))
+-- views that are alike to one of the scenario can be compared with each
+pub each_compared : {X : Type 0} (s : Scenario) (o : KeptOutline) (v : KeptView) (xs : List (X × KeptView)) → IsMadeFor s o → IsMadeAs s v → All (λ x. AreAlike v x.1) xs
+    → All (λ x. CanCompare o.views.items x.1) xs
+each_compared s o v xs made is =
+    All-weaker (λ x. AreAlike v x.1) (λ x. CanCompare o.views.items x.1)
+    (λ x same. alike s o x.1 made (sym same.keys ∙ is.keys) (sym same.hosts ∙ is.hosts)) xs
 
-  -- views that are alike to one of the scenario can be compared with each
-  pub each_compared : {X : Type 0} (s : Scenario) (o : OutlineBy (ViewOf S sets)) (v : ViewOf S sets) (xs : List (X × ViewOf S sets)) → IsMadeFor s o → IsMadeAs s v → All (λ x. AreAlike v x.1) xs
-      → All (λ x. CanCompare o.views.items x.1) xs
-  each_compared s o v xs made is =
-      All-weaker (λ x. AreAlike v x.1) (λ x. CanCompare o.views.items x.1)
-      (λ x same. alike s o x.1 made (sym same.keys ∙ is.keys) (sym same.hosts ∙ is.hosts)) xs
+-- what is possible in a view is so whoever owns it
+pub owned : (own other : ℕ) (v : KeptView) (i : Item) → IsPossible (view_of own v) i → IsPossible (view_of other v) i
+owned own other v (Registration g r) is = is
+owned own other v (Reservation x) is = is
+owned own other v (Attentions q) is = is
 
-  -- whose views they are does not matter
-  pub any_own : (v w : ViewOf S sets) (own : ℕ) → Within (view_of own v) (view_of own w) → (other : ℕ) → Within (view_of other v) (view_of other w)
-  any_own v w own within other (Registration g r) is = within (Registration g r) is
-  any_own v w own within other (Reservation x) is = within (Reservation x) is
-  any_own v w own within other (Attentions q) is = within (Attentions q) is
+pub any_own : (v w : KeptView) (own : ℕ) → Within (view_of own v) (view_of own w) → (other : ℕ) → Within (view_of other v) (view_of other w)
+any_own v w own within other i is = owned own other w i (within i (owned other own v i is))
 
 -- ---- the start
 

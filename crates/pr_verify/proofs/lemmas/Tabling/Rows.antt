@@ -1,5 +1,5 @@
 -- The row of a place, by the outcomes of its command.
-use Rattle.pr_verify.proofs.Common.{◌≡◌, ℕ, ◌+◌, ◌<◌, ◌≤◌, Bool, true, false, ◌⊎◌, ◌↔◌, List, [], ◌∷◌, ◌++◌, map, length, get_or, take, IsTrue, slice_index_or, Some, None, All, Contains, Option, AllPairs, sym, refl, ap, ◌∙◌, subst, inl, inr, arith, AllZip, cases_lt, All-map, Contains-append_left, position-Some, map-map, Stmts, matches, refusals_of, Task, Scripted, task, Scenario, view_of, View, ViewOf, IsLanding, Outcome, IsExpected, AreOutcomes, Class, Landing, NoArm, Arm, Outline, IsListed, KeepsToRole, OnScripted, Place, places_of, class_number, outline_of, IsMadeFor, IsScripted, IsRow, OutlineBy, Spot, place_of, IsUnarmed, IsInRange}
+use Rattle.pr_verify.proofs.Common.{◌≡◌, ℕ, ◌+◌, ◌<◌, ◌≤◌, Bool, true, false, ◌⊎◌, ◌↔◌, List, [], ◌∷◌, ◌++◌, map, length, get_or, take, IsTrue, slice_index_or, Some, None, All, Contains, Option, AllPairs, sym, refl, ap, ◌∙◌, subst, inl, inr, arith, AllZip, cases_lt, All-map, Contains-append_left, position-Some, map-map, Stmts, matches, refusals_of, Task, Scripted, task, Scenario, view_of, View, KeptView, IsLanding, Outcome, IsExpected, AreOutcomes, Class, Landing, NoArm, Arm, Outline, IsListed, KeepsToRole, OnScripted, Place, places_of, class_number, outline_of, IsMadeFor, IsScripted, IsRow, KeptOutline, Spot, place_of, IsUnarmed, IsInRange}
 use Rattle.std.specs.List.{filter, range_with_len}
 use Rattle.std.proofs.lemmas.List.{map-append, map-id, take_more, append-nil}
 use Rattle.std.proofs.lemmas.List.FromFn.{map-range_with_len_more}
@@ -7,7 +7,6 @@ use Rattle.std.proofs.lemmas.List.Elements.{All-push, filter-append, Contains-pu
 use Rattle.std.proofs.SliceLists.{all_zipped_more}
 use Rattle.std.proofs.lemmas.List.Quantifiers.{all_pairs_push}
 use Rattle.pr_script.specs.declared.script.Test.TheVariants as test
-use Rattle.pr_sets.specs.declared.view_set.ViewSet.{Ghosts as ViewSet}
 use Rattle.pr_script.specs.declared.landing.Class.TheVariants.{Sense}
 use Rattle.pr_views.specs.Tables.{Row, Table, table_of}
 use Rattle.pr_roles.specs.Tasks.{has_script}
@@ -91,7 +90,7 @@ all_before P from cs each none class = (λ there. ((each class).0 there).1, λ i
     at is (inr more) = absurd (none class is more)
 
 -- one more in range
-pub in_range_more : {S : Type 0} {sets : ViewSet S} (xs : List (Landing × ViewOf S sets)) (n : ℕ) (x : Landing × ViewOf S sets) → n < length xs → x ≡ slice_index_or xs n x → ((class : Class) → x.0 ≡ NoArm class → IsInRange class)
+pub in_range_more : (xs : List (Landing × KeptView)) (n : ℕ) (x : Landing × KeptView) → n < length xs → x ≡ slice_index_or xs n x → ((class : Class) → x.0 ≡ NoArm class → IsInRange class)
     → ((class : Class) → IsUnarmed n xs class → IsInRange class) → (class : Class) → IsUnarmed (n + 1) xs class → IsInRange class
 in_range_more xs n x small read here before class one = at (among_back (λ o. o.0 ≡ NoArm class) xs n x small read one)
   where
@@ -112,7 +111,7 @@ class_alone a b one two same = grind arith
 
 -- ---- the row
 
-module _ (s : Scenario) (o : Outline) (p : Place) (v : View) (here : IsHere o p v) {S : Type 0} {sets : ViewSet S} (own : ℕ) (xs : List (Landing × ViewOf S sets))
+module _ (s : Scenario) (o : Outline) (p : Place) (v : View) (here : IsHere o p v) (own : ℕ) (xs : List (Landing × KeptView))
     (are : AreOutcomes v (refusals_of s o.host) p.command p.tests (map (λ x. (x.0, view_of own x.1)) xs)) where
   landing_listed : (outcome : Outcome) (l : Landing) → Contains (map (λ x. (x.0, view_of own x.1)) xs) outcome → outcome.0 ≡ l → Contains (map (λ x. x.0) xs) l
   landing_listed outcome l listed is =
@@ -134,8 +133,8 @@ module _ (s : Scenario) (o : Outline) (p : Place) (v : View) (here : IsHere o p 
 
   takes_arm : (n : ℕ) → Contains (map (λ x. x.0) xs) (Arm n) → TakesArm s o p n
   takes_arm n listed =
-      let one = unmapped (λ (x : Landing × ViewOf S sets). x.0) xs (Arm n) listed in
-      let there = mapped (λ (x : Landing × ViewOf S sets). (x.0, view_of own x.1)) xs one.0 one.1 in
+      let one = unmapped (λ (x : Landing × KeptView). x.0) xs (Arm n) listed in
+      let there = mapped (λ (x : Landing × KeptView). (x.0, view_of own x.1)) xs one.0 one.1 in
       let come = are.come (one.0.0, view_of own one.0.1) there in
       let lands = are.only (one.0.0, view_of own one.0.1) come.0 there come.1 in
       record {
@@ -182,10 +181,10 @@ of_script (Some (Scripted b n)) script P scripted same all = subst P (sym same) 
 of_script _ script P scripted same all = absurd scripted
 
 -- the views of an outline that is listed stand at the lines of the sends
-pub lines_listed : {S : Type 0} {sets : ViewSet S} (o : OutlineBy (ViewOf S sets)) (script : Stmts) (spots : List Spot) → map place_of spots ≡ places_of script → IsListed script (outline_of o)
+pub lines_listed : (o : KeptOutline) (script : Stmts) (spots : List Spot) → map place_of spots ≡ places_of script → IsListed script (outline_of o)
     → map (λ e. e.0) o.views.items ≡ map (λ p. p.line) spots
-lines_listed {S} {sets} o script spots places listed =
-    sym (map-map (λ (e : ℕ × View). e.0) (λ (e : ℕ × ViewOf S sets). (e.0, view_of o.host e.1)) o.views.items) ∙ listed ∙ place_lines script spots places
+lines_listed o script spots places listed =
+    sym (map-map (λ (e : ℕ × View). e.0) (λ (e : ℕ × KeptView). (e.0, view_of o.host e.1)) o.views.items) ∙ listed ∙ place_lines script spots places
 
 range_more : (n : ℕ) → range_with_len 0 (n + 1) ≡ range_with_len 0 n ++ n ∷ []
 range_more n = sym (map-id (range_with_len 0 (n + 1))) ∙ map-range_with_len_more (λ h. h) 0 n n (omega arith) ∙ ap (λ l. l ++ n ∷ []) (map-id (range_with_len 0 n))

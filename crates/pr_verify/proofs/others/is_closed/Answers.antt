@@ -4,10 +4,10 @@ use Rattle.pr_verify.proofs.lemmas.Known.Questions.{own_there}
 use Rattle.pr_verify.proofs.others.is_closed.Goals as goal
 
 pub returns-then-not-branch-clause-open : goal.returns-then-not-branch-clause-open
-returns-then-not-branch-clause-open g c denied = c.in_ok-is_closed_to_resets.ensures.open c.if-not-branch.true c.args.asked.now.outline.now.host (own_there c.args.asked.now c.args.view.now c.requires.hosts)
+returns-then-not-branch-clause-open c denied = c.in_ok-is_closed_to_resets.ensures.open c.if-not-branch.true c.args.asked.now.outline.now.host (own_there c.args.asked.now c.args.view.now c.requires.hosts)
 
 pub returns-clause-closed : goal.returns-clause-closed
-returns-clause-closed g c =
+returns-clause-closed c =
     let s = scenario_of c.args.asked.now.scenario.now in
     let v = view_of c.args.asked.now.outline.now.host c.args.view.now in
     if_answered c.is_closed_to_others.result

@@ -1,4 +1,4 @@
 use Rattle.pr_verify.proofs.others.is_one_of.Given as goal
 
 abbrev pub invariant-loop-other : goal.invariant-loop-other
-invariant-loop-other g l = Unit {0}
+invariant-loop-other l = Unit {0}

@@ -4,10 +4,10 @@ use Rattle.pr_verify.proofs.reviewing.first_unarmed.Goals.{in-NoArm, in_default}
 use Rattle.pr_verify.proofs.reviewing.first_unarmed.Goals as goal
 
 pub loop-landing-init : goal.loop-landing-init
-loop-landing-init g c = unarmed_none c.args.outcomes.now c.args.from
+loop-landing-init c = unarmed_none c.args.outcomes.now c.args.from
 
 pub loop-landing-preserved : goal.loop-landing-preserved
-loop-landing-preserved g c =
+loop-landing-preserved c =
     let xs = c.args.outcomes.now in
     let n = c.loop-landing.landing-index in
     let x = c.loop-landing-item.result in
@@ -19,6 +19,6 @@ loop-landing-preserved g c =
     ]
 
 pub returns : goal.returns
-returns g c =
+returns c =
     let whole : c.loop-landing.landing-index ≡ length c.args.outcomes.now = omega arith in
     subst (λ n. IsFirstUnarmed c.args.from n c.args.outcomes.now c.loop-landing.first) whole c.loop-landing.invariant

@@ -1,4 +1,4 @@
-use Rattle.pr_verify.proofs.Common.{◌≡◌, ◌+◌, List, map, length, sym, ap, ◌∙◌, subst, arith, rules, All-nil, script_of, scenario_of, ComesTo, IsAsked, outline_of, Spot, IsAnswerTo, AreAnswersTo, HasAll, Lacks, IsFirstLacking, lines_after, HasNext, LacksNext, least, IsLeastAmong, place_of, IsLackingOfSends}
+use Rattle.pr_verify.proofs.Common.{◌≡◌, ◌+◌, List, map, length, sym, ap, ◌∙◌, subst, arith, All-nil, script_of, scenario_of, ComesTo, IsAsked, outline_of, Spot, IsAnswerTo, AreAnswersTo, HasAll, Lacks, IsFirstLacking, lines_after, HasNext, LacksNext, least, IsLeastAmong, place_of, IsLackingOfSends}
 use Rattle.pr_verify.specs.inside.Asked.{scenario_in, outline_in, view_in}
 use Rattle.pr_verify.proofs.lemmas.Least.FirstLines.{least_none, least_more}
 use Rattle.pr_verify.proofs.lemmas.Reviewing.Starts.{each_compared}
@@ -9,7 +9,7 @@ use Rattle.pr_verify.proofs.lemmas.Reviewing.OwnCommands.{lacks_by_send}
 use Rattle.pr_verify.proofs.reviewing.first_unsound.Goals as goal
 
 pub loop-i-init : goal.loop-i-init
-loop-i-init g c =
+loop-i-init c =
     let q = c.args.asked.now in
     let o = outline_of c.args.asked.now.outline.now in
     record {
@@ -17,19 +17,14 @@ loop-i-init g c =
       known = subst (AreAnswersTo q) (sym c.new-known.ensures.items) (All-nil (IsAnswerTo q));
     }
 
-pub answer-requires : goal.answer-requires
-answer-requires g c =
-    let q = c.args.asked.now in
-    (search rules, (c.requires.made, (c.loop-i-test.true, c.loop-i.invariant.known)))
-
 pub index-requires : goal.index-requires
-index-requires g c =
+index-requires c =
     let q = c.args.asked.now in
-    let there = answer_within q c.requires.made c.loop-i.i c.loop-i-test.true c.answer.new.known.items c.in_ok-answer.answer c.in_ok-answer.ensures.answer in
+    let there = answer_within q c.loop-i.i c.loop-i-test.true c.answer.new.known.items c.in_ok-answer.answer c.in_ok-answer.ensures.answer in
     omega arith
 
 pub lacking_after-requires : goal.lacking_after-requires
-lacking_after-requires g c =
+lacking_after-requires c =
     let q = c.args.asked.now in
     let n = c.loop-i.i in
     let x = element q.outline.now.views.items n (has_view q n c.loop-i-test.true) in
@@ -38,12 +33,12 @@ lacking_after-requires g c =
     let k = c.in_ok-answer.answer in
     let a = c.index.result.now in
     let xs = c.deref-in-loop-i.result.now in
-    let is = answered_here q c.requires.made n c.loop-i-test.true known k c.in_ok-answer.ensures.answer y x.0 c.spot-item.is (sym x.1) a c.index.ensures xs c.deref-in-loop-i.ensures.value in
-    let kind = kind_read q c.requires.made n c.loop-i-test.true known k c.in_ok-answer.ensures.answer y x.0 c.spot-item.is (sym x.1) a c.index.ensures xs c.deref-in-loop-i.ensures.value in
-    (search rules, each_compared (scenario_in q) q.outline.now x.0.1 xs c.requires.made is.view kind)
+    let is = answered_here q n c.loop-i-test.true known k c.in_ok-answer.ensures.answer y x.0 c.spot-item.is (sym x.1) a c.index.ensures xs c.deref-in-loop-i.ensures.value in
+    let kind = kind_read q n c.loop-i-test.true known k c.in_ok-answer.ensures.answer y x.0 c.spot-item.is (sym x.1) a c.index.ensures xs c.deref-in-loop-i.ensures.value in
+    each_compared (scenario_in q) q.outline.now x.0.1 xs q.made is.view kind
 
 pub loop-i-preserved : goal.loop-i-preserved
-loop-i-preserved g c =
+loop-i-preserved c =
     let q = c.args.asked.now in
     let s = scenario_in q in
     let out = q.outline.now in
@@ -55,12 +50,12 @@ loop-i-preserved g c =
     let k = c.in_ok-answer.answer in
     let a = c.index.result.now in
     let xs = c.deref-in-loop-i.result.now in
-    let is = answered_here q c.requires.made n c.loop-i-test.true known k c.in_ok-answer.ensures.answer y x.0 c.spot-item.is (sym x.1) a c.index.ensures xs c.deref-in-loop-i.ensures.value in
-    let kind = kind_read q c.requires.made n c.loop-i-test.true known k c.in_ok-answer.ensures.answer y x.0 c.spot-item.is (sym x.1) a c.index.ensures xs c.deref-in-loop-i.ensures.value in
+    let is = answered_here q n c.loop-i-test.true known k c.in_ok-answer.ensures.answer y x.0 c.spot-item.is (sym x.1) a c.index.ensures xs c.deref-in-loop-i.ensures.value in
+    let kind = kind_read q n c.loop-i-test.true known k c.in_ok-answer.ensures.answer y x.0 c.spot-item.is (sym x.1) a c.index.ensures xs c.deref-in-loop-i.ensures.value in
     let least =
     subst (λ (next : List _). IsLeastAmong (length xs) xs (λ z. HasNext o (lines_after (map (λ lines. lines.items) next) z.0) (view_in q z.1)) (λ z. LacksNext o (lines_after (map (λ lines. lines.items) next) z.0) (view_in q z.1)) c.lacking_after.result)
     c.deref-in-loop-i-2.ensures.value c.lacking_after.ensures in
-    let lacking = lacks_by_send g.met.S.ViewSet.below s out (place_of y) x.0.1 xs c.lacking_after.result q.declared c.requires.made is.view is.here kind is.outcomes least in
+    let lacking = lacks_by_send s out (place_of y) x.0.1 xs c.lacking_after.result q.declared q.made is.view is.here kind is.outcomes least in
     record {
       own = subst (IsLackingOfSends s o (n + 1) q.spots.now) (sym c.least-own.ensures)
           (least_more (λ (p : Spot). HasAll o (ComesTo s o (place_of p))) (λ p. Lacks o (ComesTo s o (place_of p))) q.spots.now n y c.loop-i.own c.lacking_after.result c.loop-i-test.true c.spot-item.is c.loop-i.invariant.own lacking);
@@ -68,7 +63,7 @@ loop-i-preserved g c =
     }
 
 pub returns : goal.returns
-returns g c =
+returns c =
     let s = scenario_of c.args.asked.now.scenario.now in
     let script = script_of c.args.script.now in
     let o = outline_of c.args.asked.now.outline.now in

@@ -4,7 +4,7 @@ use Rattle.pr_verify.proofs.lemmas.Reviewing.FittingPlaces.{IsHere, keeps_role, 
 use Rattle.pr_verify.proofs.reviewing.review.Goals as goal
 
 pub returns-then-not-permitted-clause-permitted : goal.returns-then-not-permitted-clause-permitted
-returns-then-not-permitted-clause-permitted g c =
+returns-then-not-permitted-clause-permitted c =
     let own = c.args.asked.now.outline.now.host in
     let v = view_of own c.args.view.now in
     let p = place_of c.args.spot.now in
@@ -13,7 +13,7 @@ returns-then-not-permitted-clause-permitted g c =
     broken_is s (outline_of c.args.asked.now.outline.now) p v (record { at = c.requires.here; own = refl }) refused
 
 pub returns-then-not-permitted-clause-misfit : goal.returns-then-not-permitted-clause-misfit
-returns-then-not-permitted-clause-misfit g c =
+returns-then-not-permitted-clause-misfit c =
     let own = c.args.asked.now.outline.now.host in
     let v = view_of own c.args.view.now in
     let p = place_of c.args.spot.now in
@@ -22,7 +22,7 @@ returns-then-not-permitted-clause-misfit g c =
     (refl, refl, breaks_role s (outline_of c.args.asked.now.outline.now) p v (record { at = c.requires.here; own = refl }) refused)
 
 pub returns-in-None-clause-permitted : goal.returns-in-None-clause-permitted
-returns-in-None-clause-permitted g c =
+returns-in-None-clause-permitted c =
     let s = scenario_of c.args.asked.now.scenario.now in
     let own = c.args.asked.now.outline.now.host in
     let v = view_of own c.args.view.now in
@@ -31,7 +31,7 @@ returns-in-None-clause-permitted g c =
     kept_is s (outline_of c.args.asked.now.outline.now) p v (record { at = c.requires.here; own = refl }) permitted
 
 pub returns-in-Some-clause-permitted : goal.returns-in-Some-clause-permitted
-returns-in-Some-clause-permitted g c =
+returns-in-Some-clause-permitted c =
     let s = scenario_of c.args.asked.now.scenario.now in
     let own = c.args.asked.now.outline.now.host in
     let v = view_of own c.args.view.now in
@@ -40,7 +40,7 @@ returns-in-Some-clause-permitted g c =
     kept_is s (outline_of c.args.asked.now.outline.now) p v (record { at = c.requires.here; own = refl }) permitted
 
 pub returns-in-None-clause-misfit : goal.returns-in-None-clause-misfit
-returns-in-None-clause-misfit g c =
+returns-in-None-clause-misfit c =
     let s = scenario_of c.args.asked.now.scenario.now in
     let o = outline_of c.args.asked.now.outline.now in
     let own = c.args.asked.now.outline.now.host in
@@ -52,7 +52,7 @@ returns-in-None-clause-misfit g c =
     (has_arms s o p v here own c.args.outcomes.now c.requires.outcomes c.requires.written.next (λ class one. none class one (omega arith)), keeps_role s o p v here permitted)
 
 pub returns-in-Some-clause-misfit : goal.returns-in-Some-clause-misfit
-returns-in-Some-clause-misfit g c =
+returns-in-Some-clause-misfit c =
     let s = scenario_of c.args.asked.now.scenario.now in
     let o = outline_of c.args.asked.now.outline.now in
     let own = c.args.asked.now.outline.now.host in

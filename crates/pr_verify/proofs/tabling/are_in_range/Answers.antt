@@ -4,7 +4,7 @@ use Rattle.pr_verify.proofs.tabling.are_in_range.Goals.{in-NoArm, in_default}
 use Rattle.pr_verify.proofs.tabling.are_in_range.Goals as goal
 
 pub loop-landing-preserved : goal.loop-landing-preserved
-loop-landing-preserved g c =
+loop-landing-preserved c =
     let xs = c.args.outcomes.now in
     let n = c.loop-landing.landing-index in
     let x = c.loop-landing-item.result in
@@ -15,6 +15,6 @@ loop-landing-preserved g c =
     ]
 
 pub returns : goal.returns
-returns g c =
+returns c =
     let whole : c.loop-landing.landing-index ≡ length c.args.outcomes.now = omega arith in
     subst (λ n. (class : Class) → IsUnarmed n c.args.outcomes.now class → IsInRange class) whole c.loop-landing.invariant

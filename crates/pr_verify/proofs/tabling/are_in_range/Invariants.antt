@@ -2,4 +2,4 @@ use Rattle.pr_verify.proofs.Common.{Class, IsUnarmed, IsInRange}
 use Rattle.pr_verify.proofs.tabling.are_in_range.Given as goal
 
 abbrev pub invariant-loop-landing : goal.invariant-loop-landing
-invariant-loop-landing g l = (class : Class) → IsUnarmed l.landing-index l.outcomes class → IsInRange class
+invariant-loop-landing l = (class : Class) → IsUnarmed l.landing-index l.outcomes class → IsInRange class

@@ -1,11 +1,11 @@
-use Rattle.pr_verify.proofs.Common.{◌≡◌, ℕ, ◌+◌, ◌<◌, true, false, map, Contains, Vec, AllPairs, Global, sym, ap, ◌∙◌, subst, arith, ViewOf, Landing, Arm}
+use Rattle.pr_verify.proofs.Common.{◌≡◌, ℕ, ◌+◌, ◌<◌, true, false, map, Contains, Vec, AllPairs, Global, sym, ap, ◌∙◌, subst, arith, KeptView, Landing, Arm}
 use Rattle.pr_verify.proofs.lemmas.Tabling.Rows.{AreBelow, below_same, below_more, rise_more}
 use Rattle.pr_verify.proofs.tabling.arms_taken.Goals.{then-lands_in+in_ok-push, else-lands_in}
 use Rattle.pr_verify.proofs.tabling.arms_taken.Goals as goal
 
 pub loop-arm-preserved : goal.loop-arm-preserved
-loop-arm-preserved g c =
-    let P = λ (n : ℕ). Contains (map (λ (o : Landing × ViewOf g.row.S.Denot g.S.ViewSet). o.0) c.args.outcomes.now) (Arm n) in
+loop-arm-preserved c =
+    let P = λ (n : ℕ). Contains (map (λ (o : Landing × KeptView). o.0) c.args.outcomes.now) (Arm n) in
     let k = c.loop-arm.arm in
     let xs = c.loop-arm.arms.items in
     let before = c.loop-arm.invariant in
@@ -25,7 +25,7 @@ loop-arm-preserved g c =
     ]
 
 pub returns-clause-each : goal.returns-clause-each
-returns-clause-each g c =
-    let P = λ (n : ℕ). Contains (map (λ (o : Landing × ViewOf g.row.S.Denot g.S.ViewSet). o.0) c.args.outcomes.now) (Arm n) in
+returns-clause-each c =
+    let P = λ (n : ℕ). Contains (map (λ (o : Landing × KeptView). o.0) c.args.outcomes.now) (Arm n) in
     let whole : c.loop-arm.arm ≡ c.args.count = omega arith in
     subst (λ k. AreBelow P k c.loop-arm.arms.items) whole c.loop-arm.invariant.each

@@ -1,6 +1,5 @@
-use Rattle.pr_verify.proofs.Common.{◌≡◌, ℕ, ◌<◌, List, map, length, Some, sym, ap, ◌∙◌, subst, AllZip, rise_above, script_of, Scripted, task, scenario_of, ViewOf, IsLeastSound, IsListed, OnScripted, Place, outline_of, row_of, IsRow, Spot, place_of, AreWritten}
+use Rattle.pr_verify.proofs.Common.{◌≡◌, ℕ, ◌<◌, List, map, length, Some, sym, ap, ◌∙◌, subst, AllZip, rise_above, script_of, Scripted, task, scenario_of, KeptView, IsLeastSound, IsListed, OnScripted, Place, outline_of, row_of, IsRow, Spot, place_of, AreWritten}
 use Rattle.std.proofs.lemmas.Slice.Zip.{AllZip-long}
-use Rattle.pr_sets.specs.declared.word_set.WordSet.{WordSet}
 use Rattle.pr_verify.specs.Tables.{IsTable}
 use Rattle.pr_views.specs.declared.table.Row.{Row}
 use Rattle.pr_verify.specs.inside.Reviewing.{IsFirstMisfit}
@@ -25,7 +24,7 @@ pub invariant_of-questions-clause-listed : goal.invariant_of-questions-clause-li
 invariant_of-questions-clause-listed c =
     let same = lines_listed c.in_ok-outline.outline (script_of c.script_in-script.result.now) c.in_ok-spots.spots.items c.in_ok-spots.ensures.places
     (of_script (task (scenario_of c.args.scenario.now) c.args.host) (script_of c.script_in-script.result.now) (λ b. IsListed b (outline_of c.in_ok-outline.outline)) c.requires c.script_in-script.ensures.script c.in_ok-outline.ensures.listed) in
-    subst (λ (xs : List Spot). map (λ (e : ℕ × ViewOf WordSet _). e.0) c.in_ok-outline.outline.views.items ≡ map (λ x. x.line) xs) (sym c.deref.ensures.value) same
+    subst (λ (xs : List Spot). map (λ (e : ℕ × KeptView). e.0) c.in_ok-outline.outline.views.items ≡ map (λ x. x.line) xs) (sym c.deref.ensures.value) same
 
 pub invariant_of-questions-clause-rise : goal.invariant_of-questions-clause-rise
 invariant_of-questions-clause-rise c =

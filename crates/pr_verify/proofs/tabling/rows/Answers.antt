@@ -1,4 +1,4 @@
-use Rattle.pr_verify.proofs.Common.{◌≡◌, ◌+◌, [], length, take, sym, ap, ◌∙◌, subst, arith, rules, AllZip, All-nil, scenario_of, FitsAt, outline_of, row_of, IsRow, Spot, IsAnswerTo, AreAnswersTo, place_of}
+use Rattle.pr_verify.proofs.Common.{◌≡◌, ◌+◌, [], length, take, sym, ap, ◌∙◌, subst, arith, AllZip, All-nil, scenario_of, FitsAt, outline_of, row_of, IsRow, Spot, IsAnswerTo, AreAnswersTo, place_of}
 use Rattle.std.proofs.lemmas.List.{take_all}
 use Rattle.pr_views.specs.declared.table.Row.{Row}
 use Rattle.pr_verify.specs.inside.Reviewing.{IsFirstMisfit}
@@ -9,7 +9,7 @@ use Rattle.pr_verify.proofs.lemmas.Tabling.Rows.{zip_more}
 use Rattle.pr_verify.proofs.tabling.rows.Goals as goal
 
 pub loop-i-init : goal.loop-i-init
-loop-i-init g c =
+loop-i-init c =
     let q = c.args.asked.now in
     record {
       rows = subst (AllZip (λ (p : Spot) (r : Row). IsRow (scenario_of q.scenario.now) (outline_of q.outline.now) (place_of p) (row_of r)) []) (sym c.new-rows.ensures.items) tt;
@@ -17,32 +17,25 @@ loop-i-init g c =
       known = subst (AreAnswersTo q) (sym c.new-known.ensures.items) (All-nil (IsAnswerTo q));
     }
 
-pub answer-requires : goal.answer-requires
-answer-requires g c =
-    let q = c.args.asked.now in
-    (search rules, (c.requires, (c.loop-i-test.true, c.loop-i.invariant.known)))
-
 pub index-requires : goal.index-requires
-index-requires g c =
+index-requires c =
     let q = c.args.asked.now in
-    let there = answer_within q c.requires c.loop-i.i c.loop-i-test.true c.answer.new.known.items c.in_ok-answer.answer c.in_ok-answer.ensures.answer in
+    let there = answer_within q c.loop-i.i c.loop-i-test.true c.answer.new.known.items c.in_ok-answer.answer c.in_ok-answer.ensures.answer in
     omega arith
 
 pub index-requires-in-loop-i : goal.index-requires-in-loop-i
-index-requires-in-loop-i g c =
+index-requires-in-loop-i c =
     let q = c.args.asked.now in
     let there = has_view q c.loop-i.i c.loop-i-test.true in
     omega arith
 
 pub row_of_spot-requires : goal.row_of_spot-requires
-row_of_spot-requires g c = (
-  search rules,
-  answered_here c.args.asked.now c.requires c.loop-i.i c.loop-i-test.true c.answer.new.known.items c.in_ok-answer.answer c.in_ok-answer.ensures.answer
-      c.spot-item.result c.index-in-loop-i.result.now c.spot-item.is c.index-in-loop-i.ensures c.index.result.now c.index.ensures c.deref.result.now c.deref.ensures.value,
-)
+row_of_spot-requires c =
+    answered_here c.args.asked.now c.loop-i.i c.loop-i-test.true c.answer.new.known.items c.in_ok-answer.answer c.in_ok-answer.ensures.answer
+    c.spot-item.result c.index-in-loop-i.result.now c.spot-item.is c.index-in-loop-i.ensures c.index.result.now c.index.ensures c.deref.result.now c.deref.ensures.value
 
 pub loop-i-preserved : goal.loop-i-preserved
-loop-i-preserved g c =
+loop-i-preserved c =
     let s = scenario_of c.args.asked.now.scenario.now in
     let o = outline_of c.args.asked.now.outline.now in
     let R = λ (p : Spot) (r : Row). IsRow s o (place_of p) (row_of r) in
@@ -57,7 +50,7 @@ loop-i-preserved g c =
     }
 
 pub returns-clause-rows : goal.returns-clause-rows
-returns-clause-rows g c =
+returns-clause-rows c =
     let s = scenario_of c.args.asked.now.scenario.now in
     let o = outline_of c.args.asked.now.outline.now in
     let R = λ (p : Spot) (r : Row). IsRow s o (place_of p) (row_of r) in
@@ -66,7 +59,7 @@ returns-clause-rows g c =
     subst (λ l. AllZip R l c.loop-i.rows.items) (ap (λ n. take n ys) whole ∙ take_all (length ys) ys (omega arith)) c.loop-i.invariant.rows
 
 pub returns-clause-misfit : goal.returns-clause-misfit
-returns-clause-misfit g c =
+returns-clause-misfit c =
     let s = scenario_of c.args.asked.now.scenario.now in
     let o = outline_of c.args.asked.now.outline.now in
     let ys = c.args.asked.now.spots.now in

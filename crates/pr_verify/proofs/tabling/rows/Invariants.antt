@@ -3,7 +3,7 @@ use Rattle.pr_verify.specs.inside.Reviewing.{IsFirstMisfit}
 use Rattle.pr_verify.proofs.tabling.rows.Given as goal
 
 abbrev pub invariant-loop-i : goal.invariant-loop-i
-invariant-loop-i g l = record {
+invariant-loop-i l = record {
   rows : AllZip (λ p r. IsRow (scenario_of l.asked.scenario.now) (outline_of l.asked.outline.now) (place_of p) (row_of r)) (take l.i l.asked.spots.now) l.rows.items;
   misfit : IsFirstMisfit (scenario_of l.asked.scenario.now) (outline_of l.asked.outline.now) l.i l.asked.spots.now l.first;
   known : AreAnswersTo l.asked l.known.items;

@@ -3,7 +3,7 @@ use Rattle.pr_verify.proofs.lemmas.Tabling.Rows.{AreBefore, before_more, before_
 use Rattle.pr_verify.proofs.tabling.unarmed.Goals as goal
 
 pub loop-class-preserved : goal.loop-class-preserved
-loop-class-preserved g c =
+loop-class-preserved c =
     let xs = c.args.outcomes.now in
     let P = λ (class : Class). IsUnarmed (length xs) xs class in
     let from = c.loop-class.from in
@@ -20,6 +20,6 @@ loop-class-preserved g c =
     }
 
 pub returns-clause-each : goal.returns-clause-each
-returns-clause-each g c =
+returns-clause-each c =
     let xs = c.args.outcomes.now in
     all_before (IsUnarmed (length xs) xs) c.loop-class.from c.loop-class.classes.items c.loop-class.invariant.each c.in_default.ensures

@@ -1,4 +1,4 @@
-use Rattle.pr_verify.proofs.Common.{ℕ, ◌≤◌, ◌≢◌, IfErr, Some, sym, refl, ap, ◌∙◌, subst, arith, rules, err_from_is_err_and, cost_of_all, Stmts, script_of, task, task_of, scenario_of, IsLeastSound, HasOutline, OnScripted, SendsFit, IsRefusal, outline_of, IsScripted, Refusal}
+use Rattle.pr_verify.proofs.Common.{ℕ, ◌≤◌, ◌≢◌, IfErr, Some, sym, refl, ap, ◌∙◌, subst, arith, err_from_is_err_and, cost_of_all, Stmts, script_of, task, task_of, scenario_of, IsLeastSound, HasOutline, OnScripted, SendsFit, IsRefusal, outline_of, IsScripted, Refusal}
 use Rattle.std.proofs.lemmas.Result.{IfErr-weaker, on_ok_weaker}
 use Rattle.pr_roles.proofs.lemmas.Scenarios.Nexuses.{scripted_task, scripted_fits, task_read}
 use Rattle.pr_roles.specs.declared.refusal.Refusal.TheVariants.{Memory}
@@ -26,7 +26,7 @@ check_fit-requires c =
     let fits = scripted_fits s c.args.host n c.nexus_in.ensures.nexus c.in-Scripted.script c.in-Scripted.budget c.in-Scripted.is c.nexus_in.ensures.fits in
     let same = c.in_ok-outline-in-Scripted.ensures.host in
     let least = subst (λ t. OnScripted t (λ b n. IsLeastSound s b o)) is c.in_ok-outline-in-Scripted.ensures.least in
-    (search rules, (record { host = omega (arith, c.requires); written = fits.0; made = c.in_ok-outline-in-Scripted.ensures.made }, least.sound))
+    record { able = record { host = omega (arith, c.requires); written = fits.0; made = c.in_ok-outline-in-Scripted.ensures.made }; sound = least.sound }
 
 pub returns-in_ok-outline-in-Scripted-clause-outline : goal.returns-in_ok-outline-in-Scripted-clause-outline
 returns-in_ok-outline-in-Scripted-clause-outline c =

@@ -1,10 +1,10 @@
 use Rattle.pr_verify.proofs.Common.{◌<◌, length, get_or, ap, ◌∙◌, subst}
 use Rattle.pr_verify.proofs.lemmas.Inferring.Sketches.{item_is}
 use Rattle.pr_verify.proofs.lemmas.Known.Recollection.{asked_at}
-use Rattle.pr_verify.proofs.known.Closing+ViewOf+S.place_of.Goals as goal
+use Rattle.pr_verify.proofs.known.Closing.place_of.Goals as goal
 
 pub returns-then-ask_the_same : goal.returns-then-ask_the_same
-returns-then-ask_the_same g c =
+returns-then-ask_the_same c =
     let answers = c.args.self.now.answers.items in
     let same = c.deref-answer-items.ensures.value in
     let a = c.answer-item.result in

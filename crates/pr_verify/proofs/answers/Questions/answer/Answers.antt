@@ -3,34 +3,34 @@ use Rattle.pr_script.specs.Grammar.{test_fits}
 use Rattle.pr_verify.specs.inside.Asked.{IsAskedBefore}
 use Rattle.pr_verify.proofs.lemmas.Known.Recollection.{all_pushed}
 use Rattle.pr_verify.proofs.lemmas.Known.Questions.{host_at, written_at, recalled, answer_to, answered_now}
-use Rattle.pr_verify.proofs.answers.Questions+ViewOf+S.answer.Goals as goal
+use Rattle.pr_verify.proofs.answers.Questions.answer.Goals as goal
 
 pub returns-in-Some-clause-answer : goal.returns-in-Some-clause-answer
-returns-in-Some-clause-answer g c =
-    recalled c.args.self.now c.requires.made c.args.place c.requires.there c.args.known.now.items c.in-Some.number c.requires.known
+returns-in-Some-clause-answer c =
+    recalled c.args.self.now c.args.place c.requires.there c.args.known.now.items c.in-Some.number c.requires.known
     (subst (λ known. IsAskedBefore c.args.self.now c.args.place known c.in-Some.number) c.deref.ensures.value c.in-Some.ensures)
 
 pub outcomes-requires : goal.outcomes-requires
-outcomes-requires g c =
+outcomes-requires c =
     let q = c.args.self.now in
     let p = slice_index_or q.spots.now c.args.place c.index-self-place.result in
     let read = ap (slice_index_or q.spots.now c.args.place) c.index-self-place.is in
     let e = c.index.result.now in
-    let is = written_at q c.requires.made c.args.place c.requires.there p e read c.index.ensures in
+    let is = written_at q c.args.place c.requires.there p e read c.index.ensures in
     let tests = subst (All (λ t. test_fits e.1.keys.items p.command t ≡ true)) (sym c.deref-2.ensures.value) is.tests in
     let few = subst (λ ts. length ts ≤ MOST_ARMS) (sym c.deref-2.ensures.value) is.few in
-    (search rules, (host_at q c.requires.made c.args.place c.requires.there e c.index.ensures, (is.command, (tests, few))))
+    (search rules, (host_at q c.args.place c.requires.there e c.index.ensures, (is.command, (tests, few))))
 
 pub returns-clause-known : goal.returns-clause-known
-returns-clause-known g c =
+returns-clause-known c =
     all_pushed (IsAnswerTo c.args.self.now) c.args.known.now.items c.push.new.self.items _ c.in_ok-push.ensures.items c.requires.known
-    (answer_to c.args.self.now c.requires.made c.args.place c.requires.there (slice_index_or c.args.self.now.spots.now c.args.place c.index-self-place.result) c.index.result.now
+    (answer_to c.args.self.now c.args.place c.requires.there (slice_index_or c.args.self.now.spots.now c.args.place c.index-self-place.result) c.index.result.now
     (ap (slice_index_or c.args.self.now.spots.now c.args.place) c.index-self-place.is) c.index.ensures
     _ refl c.in_ok-outcomes.ensures.alike c.deref-2.result.now c.deref-2.ensures.value c.refusals_in-refusals.result c.refusals_in-refusals.ensures c.in_ok-outcomes.ensures.outcomes)
 
 pub returns-clause-answer : goal.returns-clause-answer
-returns-clause-answer g c =
-    answered_now c.args.self.now c.requires.made c.args.place c.requires.there (slice_index_or c.args.self.now.spots.now c.args.place c.index-self-place.result) c.index.result.now
+returns-clause-answer c =
+    answered_now c.args.self.now c.args.place c.requires.there (slice_index_or c.args.self.now.spots.now c.args.place c.index-self-place.result) c.index.result.now
     (ap (slice_index_or c.args.self.now.spots.now c.args.place) c.index-self-place.is) c.index.ensures
     (record { spot = c.args.place; outcomes = c.in_ok-outcomes.outcomes }) refl c.in_ok-outcomes.ensures.alike c.deref-2.result.now c.deref-2.ensures.value c.refusals_in-refusals.result c.refusals_in-refusals.ensures c.in_ok-outcomes.ensures.outcomes
     c.args.known.now.items c.push.new.self.items c.len-number.result c.in_ok-push.ensures.items (omega (arith, c.len-number.ensures))
