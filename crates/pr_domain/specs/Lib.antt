@@ -1,4 +1,5 @@
 pub mod Landings
 pub mod Outcomes
+pub mod Permission
 pub mod Starting
 pub mod inside

@@ -1,7 +1,7 @@
 //! The outcomes of a command, from the tally of its ways to end.
 
-ghost use Rattle.std.specs.Prelude.{◌≡◌, ◌<◌, ◌≤◌, ℕ, true, List, Some};
-ghost use Rattle.std.specs.List.{All, slice_get};
+ghost use Rattle.std.specs.Prelude.{◌≡◌, ◌≤◌, ◌<◌, ℕ, true, List, Some};
+ghost use Rattle.std.specs.List.{All};
 ghost use Rattle.pr_cdb.specs.declared.reply.Sense.{Sense};
 ghost use Rattle.pr_attention.specs.Attentions.{code_of};
 ghost use Rattle.pr_cdb.specs.declared.wire.Request.TheVariants.{Plain};
@@ -12,7 +12,6 @@ ghost use Rattle.pr_script.specs.Grammar.{is_written, test_fits};
 ghost use Rattle.pr_unit.specs.Conduct.{command_fault};
 ghost use Rattle.pr_unit.specs.Replies.{report};
 ghost use Rattle.pr_domain.specs.Landings.{IsClass};
-ghost use Rattle.pr_domain.specs.declared.tally.TheConstants.{WAYS};
 ghost use Rattle.pr_domain.specs.inside.Reporting.{AreKept, AreBlind, AreMore, AreCalm, AreQuiet, Reports, Conflicts, Fails, EndsGood, Refuses, refusal, IsLater};
 
 use crate::arms::landing_of;
@@ -85,16 +84,6 @@ fn fault_of(command: &Command) -> Option<Sense>
         )),
         // That no other can be at fault is what the contract says.
         _ => None,
-    }
-}
-
-impl Tally {
-    // What is so of registrations and reservation where the command ends in this way.
-    fn way(&self, way: usize) -> Possibilities
-        requires { way < WAYS }
-        ensures { slice_get self.now.ways way ≡ Some result }
-    {
-        self.ways[way]
     }
 }
 

@@ -1,6 +1,7 @@
 //! What is found of each way in which a command can end.
 
-ghost use Rattle.std.specs.Prelude.{◌≡◌, ◌<◌, ◌≤◌, ℕ, false, IsTrue, ◌==◌, ◌&&◌, ◌||◌};
+ghost use Rattle.std.specs.Prelude.{◌≡◌, ◌<◌, ◌≤◌, ℕ, false, IsTrue, ◌==◌, ◌&&◌, ◌||◌, Some};
+ghost use Rattle.std.specs.List.{slice_get};
 ghost use Rattle.pr_cdb.specs.declared.codes.TheConstants.{MOST_NEXUSES};
 ghost use Rattle.pr_sets.specs.Numbers.{most};
 ghost use Rattle.pr_sets.specs.BitSets.{has};
@@ -32,6 +33,14 @@ impl Tally {
         Tally {
             ways: [Possibilities::none(); WAYS],
         }
+    }
+
+    /// What is so of registrations and reservation where the command ends in this way.
+    pub(crate) fn way(&self, way: usize) -> Possibilities
+        requires { way < WAYS }
+        ensures { slice_get self.now.ways way ≡ Some result }
+    {
+        self.ways[way]
     }
 
     /// Adds what is found of this way.

@@ -1,11 +1,12 @@
 //! The tally of a view: the possible endings of a command of its owner, each with the possible states after it.
 
-ghost use Rattle.std.specs.Prelude.{◌≡◌, ◌<◌, ◌≤◌, ℕ, ◌==◌, ◌||◌, length, IsTrue, IfSome, IfNone};
+ghost use Rattle.std.specs.Prelude.{◌≡◌, ◌<◌, ◌≤◌, ℕ, true, ◌==◌, ◌||◌, length, IsTrue, IfSome, IfNone};
 ghost use Rattle.std.specs.List.{All};
 ghost use Rattle.pr_script.specs.Grammar.{is_read_keys, is_read_reservation};
 ghost use Rattle.pr_script.specs.declared.limits.TheConstants.{MOST_ARMS};
 ghost use Rattle.pr_roles.specs.declared.limits.TheConstants.{MOST_KEYS};
 ghost use Rattle.pr_sets.specs.Numbers.{most};
+ghost use Rattle.pr_sets.specs.BitSets.{has};
 ghost use Rattle.pr_sets.specs.Wides.{has_wide};
 ghost use Rattle.pr_views.specs.declared.view.TheConstants.{MOST_REGISTRATIONS};
 ghost use Rattle.pr_roles.specs.Keys.{key_at};
@@ -13,7 +14,7 @@ ghost use Rattle.pr_regions.specs.Purposes.{HasNumber};
 ghost use Rattle.pr_unit.specs.Demands.{is_refused};
 ghost use Rattle.pr_regions.specs.Regions.{HasRoom, standing_of};
 ghost use Rattle.pr_domain.specs.inside.Tallies.{AddsBranch, AddsBranches, AddsAccepted, AddsRefused, AddsReading, AddsReadings, AreTallied, way_of};
-ghost use Rattle.pr_domain.specs.inside.TestedCommands.{AddsAlike, AddsPlace, AddsReservation, AreAlike, IsTallyOf};
+ghost use Rattle.pr_domain.specs.inside.TestedCommands.{AddsSenders, AddsReservation, AreAlike, IsTallyOf};
 
 use crate::arms::first_arm;
 use crate::tally::Tally;
@@ -222,7 +223,7 @@ fn add_alike(
 )
     requires registration { registration ≤ length asked.now.keys.now }
     requires alike { AreAlike asked.now registration alike }
-    ensures { AddsAlike view.now place asked.now alike tally.old tally.new }
+    ensures { AddsSenders view.now place asked.now alike tally.old tally.new }
 {
     if is_refused(key_at(asked.keys, registration), asked.command) {
         add_refused(tally, view, place, alike);
@@ -254,6 +255,7 @@ fn is_left_so(
     standing: Standing,
 ) -> bool
     requires { registration < MOST_REGISTRATIONS }
+    ensures left { IsTrue result → has left registration ≡ true }
     ensures refused { IsTrue result → is_refused (key_at asked.now.keys.now registration)
         asked.now.command ≡ refused }
     ensures stands { IsTrue result → standing_of purpose registration ≡ standing }
@@ -266,7 +268,9 @@ fn is_left_so(
 // Of the registrations that are left those that are alike to this one, so that one look at a reservation serves all of them.
 fn alike_to(asked: &TestedCommand, left: BitSet, registration: u8) -> BitSet
     requires registration { registration ≤ length asked.now.keys.now }
-    ensures { AreAlike asked.now registration result }
+    requires left { has left registration ≡ true }
+    ensures alike { AreAlike asked.now registration result }
+    ensures left { (r : ℕ) → has result r ≡ true → has left r ≡ true }
 {
     let mut alike = BitSet::only(registration);
     if is_reading(asked.command) {
@@ -283,15 +287,20 @@ fn alike_to(asked: &TestedCommand, left: BitSet, registration: u8) -> BitSet
     alike
 }
 
-// Adds the states under one reservation.
-fn add_place(tally: &mut Tally, view: &Possibilities, place: Place, asked: &TestedCommand)
-    ensures { AddsPlace view.now place asked.now tally.old tally.new }
+/// Adds the states under one reservation in which the sender has one of these registrations.
+pub(crate) fn add_senders(
+    tally: &mut Tally,
+    view: &Possibilities,
+    place: Place,
+    asked: &TestedCommand,
+    senders: BitSet,
+)
+    ensures { AddsSenders view.now place asked.now senders tally.old tally.new }
 {
     let registrations = asked.keys.len() as u8 + 1;
-    let possible = view.registrations[usize::from(place.sender)];
     let mut done = BitSet::none();
     for registration in 0..registrations {
-        let left = possible.except(done);
+        let left = senders.except(done);
         if left.has(registration) {
             let alike = alike_to(asked, left, registration);
             add_alike(tally, view, place, asked, registration, alike);
@@ -311,7 +320,8 @@ fn add_reservation(tally: &mut Tally, view: &Possibilities, place: Place, asked:
             return;
         }
     }
-    add_place(tally, view, place, asked);
+    let senders = view.registrations[usize::from(place.sender)];
+    add_senders(tally, view, place, asked, senders);
 }
 
 /// The possible endings of the owner's command, each with the possible states after it.

@@ -8,7 +8,7 @@ use crate::refusing::{row_at, view_at};
 use pr_cdb::Command;
 use pr_domain::outcomes;
 use pr_explore::Goal;
-use pr_permission::permitted;
+use pr_domain::permitted;
 use pr_roles::{Refusals, Role, Scenario};
 use pr_script::limits::MOST_ARMS;
 use pr_script::{Class, Landing, Test, is_test_declared, is_written, stands_under};

@@ -48,7 +48,7 @@ pub use Rattle.pr_domain.specs.Landings.{IsLanding}
 pub use Rattle.pr_domain.specs.Outcomes.{Outcome, IsExpected, AreOutcomes}
 pub use Rattle.pr_domain.specs.Starting.{IsOfStart}
 pub use Rattle.pr_domain.proofs.lemmas.Starting.WrittenNumbers.{are_counted}
-pub use Rattle.pr_permission.specs.Permission.{IsPermittedIn, IsRefusedIn}
+pub use Rattle.pr_domain.specs.Permission.{IsPermittedIn, IsRefusedIn}
 pub use Rattle.pr_interference.specs.Interference.{IsDone, Becomes, by_another, by_reset, IsClosed, IsClosure}
 pub use Rattle.pr_verify.specs.LeastOutlines.{IsWithinIn, IsNoMore, IsLeastSound}
 pub use Rattle.pr_views.specs.Tables.{Outline, outline_of, row_of}

@@ -15,7 +15,7 @@ use crate::answers::Questions;
 use crate::lacking::{first_lacking, lacking_at_start, least};
 use crate::others::lacking_by_others;
 use crate::places::{Spot, first_lines};
-use pr_permission::permitted;
+use pr_domain::permitted;
 use pr_roles::{Refusal, nexus_in};
 use pr_script::{Class, Landing, Script};
 use pr_views::{Outline, View};

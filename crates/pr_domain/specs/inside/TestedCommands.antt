@@ -14,7 +14,7 @@ use Rattle.pr_unit.specs.Demands.{is_refused}
 use Rattle.pr_regions.specs.Regions.{standing_of}
 use Rattle.pr_domain.specs.declared.tally.Tally.{Tally}
 use Rattle.pr_domain.specs.declared.tested.TestedCommand.{TestedCommand}
-use Rattle.pr_domain.specs.inside.Tallies.{Grows, HasOneOf, IsUnder, IsReserved, IsOwners, IsOfScope, IsNothing, IsTally}
+use Rattle.pr_domain.specs.inside.Tallies.{Grows, HasOneOf, IsReserved, IsOwners, IsOfScope, IsNothing, IsTally}
 
 -- The registrations are alike to this one, which is one of them: the command is refused of each or of none, and each stands as this
 -- one does to what it is for. A command that reads tells each from the others.
@@ -26,14 +26,9 @@ pub record AreAlike (q : TestedCommand) (registration : ℕ) (alike : BitSet) : 
   pub read : (is_read_keys q.command || is_read_reservation q.command) ≡ true → (r : ℕ) → has alike r ≡ true → r ≡ registration
 
 -- where the command is of the place's sender, what the shown states leave in which the sender has one of these registrations
-abbrev pub AddsAlike : Possibilities → Place → TestedCommand → BitSet → Tally → Tally → Type 0
-AddsAlike view place q alike old new =
-    (s : Scope) → IsOwners s q.keys.now view place → Grows (view_in s view) q.command q.tests.now old new (HasOneOf s place alike)
-
--- what those leave in which the reservation of the place stands
-abbrev pub AddsPlace : Possibilities → Place → TestedCommand → Tally → Tally → Type 0
-AddsPlace view place q old new =
-    (s : Scope) → IsOwners s q.keys.now view place → Grows (view_in s view) q.command q.tests.now old new (IsUnder s place)
+abbrev pub AddsSenders : Possibilities → Place → TestedCommand → BitSet → Tally → Tally → Type 0
+AddsSenders view place q senders old new =
+    (s : Scope) → IsOwners s q.keys.now view place → Grows (view_in s view) q.command q.tests.now old new (HasOneOf s place senders)
 
 -- the old tally is of the reservations before that of the place, and the new one is of that one too
 abbrev pub AddsReservation : Possibilities → Place → TestedCommand → Tally → Tally → Type 0

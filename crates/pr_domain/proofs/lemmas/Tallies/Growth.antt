@@ -1,5 +1,5 @@
 -- Tallies that grow step by step.
-use Rattle.pr_domain.proofs.Common.{◌≡◌, ℕ, ◌+◌, ◌<◌, true, ◌⊎◌, List, slice_get, Some, Contains, sym, ◌∙◌, subst, inl, inr, arith, cases_order, cases_eq, same_Some, slice_get_within, get_or_from_slice_get, Command, UnitState, Test, Item, View, Shows, Branch, Tally, has_tallied, Leaves, IsFound, Grows, OneBelow, IsOfPlace}
+use Rattle.pr_domain.proofs.Common.{◌≡◌, ℕ, ◌+◌, ◌<◌, true, ◌⊎◌, List, slice_get, Some, sym, ◌∙◌, subst, inl, inr, arith, cases_order, cases_eq, same_Some, Command, UnitState, Test, Item, View, Shows, Tally, has_tallied, Leaves, IsFound, Grows, OneBelow, IsOfPlace}
 
 -- found among these, and so among those
 found_as : (v : View) (c : Command) (tests : List Test) (A B : UnitState → Type 0) (way : ℕ) (i : Item) (q : ℕ) → ((u : UnitState) → Shows v u → A u → B u)
@@ -71,6 +71,3 @@ element_more v c tests old mid new xs IsOf n x is =
     grows_more v c tests old mid new (IsOfPlace xs IsOf) n (IsOf x)
     (λ u shown of. (x, is, of))
     (λ u shown of. subst (λ y. IsOf y u) (same_Some of.0 x (sym of.1 ∙ is)) of.2)
-
-pub listed_there : (branches : List Branch) (n : ℕ) (b : Branch) → slice_get branches n ≡ Some b → Contains branches b
-listed_there branches n b is = (n, slice_get_within branches n b is, get_or_from_slice_get branches n b b is)

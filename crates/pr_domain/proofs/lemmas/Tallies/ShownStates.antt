@@ -1,6 +1,8 @@
 -- The states that a view shows, by their reservation and the owner's registration, one after another.
-use Rattle.pr_domain.proofs.Common.{◌≡◌, ℕ, ◌+◌, ◌<◌, Bool, true, false, ◌||◌, ◌⊎◌, List, length, sym, refl, ap, ◌∙◌, subst, inl, inr, arith, false≢true, has_wide, has, BitSet, Command, UnitState, Test, has_at, view_in, Scope, count_of_reservations, Item, Registration, Reservation, IsSo, View, Shows, Possibilities, IsPlace, Place, Tally, has_tallied, IsFound, Grows, IsTally, HasBoth, HasOneOf, IsUnder, IsReserved, IsOwners, IsOfScope}
+use Rattle.pr_domain.proofs.Common.{◌≡◌, ℕ, ◌+◌, ◌<◌, ◌≤◌, Bool, true, false, ◌||◌, ◌⊎◌, List, length, sym, refl, ap, ◌∙◌, subst, inl, inr, false≢true, cases_lt, has_wide, has, BitSet, Command, UnitState, Test, has_at, view_in, Scope, count_of_reservations, Item, Registration, Reservation, IsSo, View, Shows, Possibilities, holds_at-get_or, IsPlace, Place, Tally, has_tallied, IsFound, Grows, IsTally, HasBoth, HasOneOf, IsUnder, IsReserved, IsOwners, IsOfScope}
+use Rattle.std.specs.Prelude.{slice_index_or}
 use Rattle.std.proofs.lemmas.Bool.{or_left, or_right}
+use Rattle.pr_views.proofs.lemmas.Rooms.Places.{holds_at_past}
 use Rattle.pr_regions.proofs.lemmas.Showing.ShownStates.{is_place}
 use Rattle.pr_domain.proofs.lemmas.Tallies.Growth.{grows_as, grows_then, grows_more, grows_from_none}
 
@@ -24,16 +26,32 @@ senders_more v s c tests place done more both old mid new joined =
       registered = one.registered;
     })
 
--- where all that are possible are done, every state under the reservation is
-pub senders_all : (s : Scope) (c : Command) (tests : List Test) (view : Possibilities) (place : Place) (done : BitSet) (old new : Tally) → IsPlace s view place
-    → ((r : ℕ) → r < length s.keys + 1 → has_at view.registrations place.sender r ≡ true → has done r ≡ true)
-    → Grows (view_in s view) c tests old new (HasOneOf s place done) → Grows (view_in s view) c tests old new (IsUnder s place)
-senders_all s c tests view place done old new is all =
-    grows_as (view_in s view) c tests old new (HasOneOf s place done) (IsUnder s place)
+-- those of one word, where the other has the same registrations of those that there are
+pub senders_same : (s : Scope) (c : Command) (tests : List Test) (v : View) (place : Place) (done senders : BitSet) (old new : Tally)
+    → ((r : ℕ) → has done r ≡ true → has senders r ≡ true) → ((r : ℕ) → r ≤ length s.keys → has senders r ≡ true → has done r ≡ true)
+    → Grows v c tests old new (HasOneOf s place done) → Grows v c tests old new (HasOneOf s place senders)
+senders_same s c tests v place done senders old new asked all =
+    grows_as v c tests old new (HasOneOf s place done) (HasOneOf s place senders)
+    (λ u shown one. record { registration = one.registration; among = asked one.registration one.among; reserved = one.reserved; registered = one.registered })
+    (λ u shown one. record { registration = one.registration; among = all one.registration one.registered.1 one.among; reserved = one.reserved; registered = one.registered })
+
+-- what is at a place of the list
+pub has_here : (words : List BitSet) (g r : ℕ) (d : BitSet) → has_at words g r ≡ true → has (slice_index_or words g d) r ≡ true
+has_here words g r d is = at (cases_lt g (length words))
+  where
+    at : (g < length words) ⊎ (length words ≤ g) → has (slice_index_or words g d) r ≡ true
+    at (inl small) = sym (holds_at-get_or (λ w. has w r) words g d small) ∙ is
+    at (inr past) = absurd (false≢true (sym (holds_at_past (λ w. has w r) words g past) ∙ is))
+
+-- where they are all that are possible, every state under the reservation
+pub senders_all : (s : Scope) (c : Command) (tests : List Test) (view : Possibilities) (place : Place) (g : ℕ) (d : BitSet) (old new : Tally) → IsPlace s view place → g ≡ place.sender
+    → Grows (view_in s view) c tests old new (HasOneOf s place (slice_index_or view.registrations g d)) → Grows (view_in s view) c tests old new (IsUnder s place)
+senders_all s c tests view place g d old new is same =
+    grows_as (view_in s view) c tests old new (HasOneOf s place (slice_index_or view.registrations g d)) (IsUnder s place)
     (λ u shown one. one.reserved)
     (λ u shown so.
     let seen = shown.registrations place.sender (subst (λ m. place.sender < m) (sym is.hosts) place.there) in
-    record { registration = seen.0; among = all seen.0 (let few = seen.1.1.1 in omega arith) seen.1.0.1; reserved = so; registered = seen.1.1 })
+    record { registration = seen.0; among = has_here view.registrations g seen.0 d (subst (λ h. has_at view.registrations h seen.0 ≡ true) (sym same) seen.1.0.1); reserved = so; registered = seen.1.1 })
 
 pub senders_none : (s : Scope) (c : Command) (tests : List Test) (v : View) (place : Place) (none : BitSet) (t : Tally) → ((m : ℕ) → has none m ≡ false) → Grows v c tests t t (HasOneOf s place none)
 senders_none s c tests v place none t nothing = grows_from_none v c tests t (HasOneOf s place none) (λ u shown one. false≢true (sym (nothing one.registration) ∙ one.among))

@@ -1,6 +1,6 @@
 use Rattle.pr_domain.proofs.Common.{◌≡◌, true, All, sym, ◌∙◌, subst, is_written, test_fits}
 use Rattle.pr_domain.proofs.lemmas.Twins.RetypedStates.{twin_grows}
-use Rattle.pr_domain.proofs.lemmas.Tallies.ShownStates.{reservation_more}
+use Rattle.pr_domain.proofs.lemmas.Tallies.ShownStates.{reservation_more, senders_all}
 use Rattle.pr_domain.proofs.tallying.add_reservation.Goals as goal
 
 pub returns-in-Some : goal.returns-in-Some
@@ -14,4 +14,7 @@ returns-in-Some c s none owners nothing before =
 
 pub returns : goal.returns
 returns c s none owners nothing before =
-    reservation_more s c.args.asked.now.command c.args.asked.now.tests.now c.args.view.now c.args.place none c.args.tally.now c.add_place.new.tally before (c.add_place.ensures s owners)
+    let command = c.args.asked.now.command in
+    let tests = c.args.asked.now.tests.now in
+    reservation_more s command tests c.args.view.now c.args.place none c.args.tally.now c.add_senders.new.tally before
+    (senders_all s command tests c.args.view.now c.args.place c.from.result _ c.args.tally.now c.add_senders.new.tally owners.is c.from.ensures (c.add_senders.ensures s owners))

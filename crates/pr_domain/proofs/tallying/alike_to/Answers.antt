@@ -3,11 +3,11 @@ use Rattle.std.proofs.lemmas.Option.{same_Some}
 use Rattle.pr_domain.proofs.lemmas.Tallies.Requests.{alone_alike, uniform_by}
 use Rattle.pr_domain.proofs.tallying.alike_to.Goals as goal
 
-pub returns-then-is_reading : goal.returns-then-is_reading
-returns-then-is_reading c = alone_alike c.args.asked.now c.args.registration c.only-alike.result c.only-alike.ensures
+pub returns-then-is_reading-clause-alike : goal.returns-then-is_reading-clause-alike
+returns-then-is_reading-clause-alike c = alone_alike c.args.asked.now c.args.registration c.only-alike.result c.only-alike.ensures
 
-pub returns : goal.returns
-returns c =
+pub returns-clause-alike : goal.returns-clause-alike
+returns-clause-alike c =
     let known = c.loop-other.invariant in
     record {
       itself = known.itself;

@@ -1,2 +1,0 @@
-pub mod Permission
-pub mod Permitting

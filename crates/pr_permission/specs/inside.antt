@@ -1,2 +1,0 @@
-pub mod Askings
-pub mod Permitting
