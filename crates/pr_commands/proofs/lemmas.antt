@@ -1,8 +1,8 @@
 pub mod Audits
 pub mod Checks
+pub mod Endings
+pub mod Ends
 pub mod Replays
 pub mod Runs
 pub mod Steps
-pub mod Tables
 pub mod Witnesses
-pub mod Ends

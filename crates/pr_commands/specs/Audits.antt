@@ -19,7 +19,7 @@ use Rattle.pr_trace.specs.TraceText.{names_in}
 use Rattle.pr_report.specs.Verdicts.{is_refusal, verdict_text}
 use Rattle.pr_commands.specs.declared.fault.Fault.{Fault}
 use Rattle.pr_commands.specs.declared.fault.Fault.TheVariants as fault
-use Rattle.pr_commands.specs.Endings.{Outputs}
+use Rattle.pr_commands.specs.Endings.{IsAnswerOf, Outputs}
 
 -- The whole history is legal from the first start, and so long; or the item at this place is the first that isn't. Of the
 -- scenario itself an audit says nothing.
@@ -29,16 +29,13 @@ Holds (Refused reason) s history = ⊥
 Holds (Legal items) s history = IsLegalFromFirst s history × (items ≡ length history)
 Holds (Illegal place) s history = IsFirstIllegal s history place
 
--- the text is a scenario, the trace is read as a history under its names, and this is the line of a verdict that holds of them
-pub record IsAuditOf (trace text line : List ℕ) (refused : Bool) : Type 0 where
-  pub scenario : Scenario
-  pub read : IsWrittenAs text scenario
-  pub history : List Item
-  pub traced : trace_of scenario.version (names_in scenario) trace ≡ Ok history
-  pub verdict : Verdict
-  pub holds : Holds verdict scenario history
-  pub line_is : line ≡ verdict_text (names_in scenario) verdict
-  pub refused_is : refused ≡ is_refusal verdict
+-- the trace is read as a history under the scenario's names, and the verdict holds of it
+abbrev pub HoldsOfTrace : List ℕ → Scenario → Verdict → Type 0
+HoldsOfTrace trace s verdict = (history : List Item) × (trace_of s.version (names_in s) trace ≡ Ok history) × Holds verdict s history
+
+-- the text is a scenario, and this is the line of a verdict that holds of it and the trace
+abbrev pub IsAuditOf : List ℕ → List ℕ → List ℕ → Bool → Type 0
+IsAuditOf trace = IsAnswerOf (HoldsOfTrace trace) (λ s verdict. verdict_text (names_in s) verdict) is_refusal
 
 -- the text is a scenario, and under its names the trace has this fault
 pub record IsTraceFault (text trace : List ℕ) (error : TraceError) : Type 0 where

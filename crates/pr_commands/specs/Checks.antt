@@ -1,34 +1,28 @@
 -- Agrees with docs/FORMATS.md, 'Checking'.
 -- What `fence check` writes.
-use Rattle.std.specs.Prelude.{◌≡◌, ℕ, Bool, List, Option, Result}
+use Rattle.std.specs.Prelude.{ℕ, Bool, List, Option, Result}
 use Rattle.pr_roles.specs.Scenarios.{Scenario}
 use Rattle.pr_roles.specs.Safety.{IsSafe}
 use Rattle.pr_verify.specs.Outlines.{HaveOutlines}
 use Rattle.pr_verify.specs.Verdicts.{IsFirstReason}
-use Rattle.pr_text.specs.Reading.{IsWrittenAs}
 use Rattle.pr_trace.specs.TraceText.{names_in}
 use Rattle.pr_report.specs.Verdicts.{is_refusal, verdict_text}
 use Rattle.pr_report.specs.declared.verdict.Verdict.{Verdict}
 use Rattle.pr_report.specs.declared.verdict.Verdict.TheVariants.{Accepted, Refused, Legal, Illegal}
 use Rattle.pr_commands.specs.declared.fault.Fault.{Fault}
-use Rattle.pr_commands.specs.Endings.{Outputs}
+use Rattle.pr_commands.specs.Endings.{IsAnswerOf, Outputs}
 
 -- A scenario that is accepted is safe, and its hosts have outlines that are sound and fit. One that is refused is so for the
 -- first reason that the least sound outlines show. Of histories a check says nothing.
-abbrev pub Holds : Verdict → Scenario → Type 0
-Holds Accepted s = IsSafe s × HaveOutlines s
-Holds (Refused reason) s = IsFirstReason s reason
-Holds (Legal items) s = ⊥
-Holds (Illegal place) s = ⊥
+abbrev pub Holds : Scenario → Verdict → Type 0
+Holds s Accepted = IsSafe s × HaveOutlines s
+Holds s (Refused reason) = IsFirstReason s reason
+Holds s (Legal items) = ⊥
+Holds s (Illegal place) = ⊥
 
 -- the text is a scenario, and this is the line of a verdict that holds of it
-pub record IsVerdictOf (text line : List ℕ) (refused : Bool) : Type 0 where
-  pub scenario : Scenario
-  pub read : IsWrittenAs text scenario
-  pub verdict : Verdict
-  pub holds : Holds verdict scenario
-  pub line_is : line ≡ verdict_text (names_in scenario) verdict
-  pub refused_is : refused ≡ is_refusal verdict
+abbrev pub IsVerdictOf : List ℕ → List ℕ → Bool → Type 0
+IsVerdictOf = IsAnswerOf Holds (λ s verdict. verdict_text (names_in s) verdict) is_refusal
 
 -- What goes to the output. There are no words after the command's name that could be at fault, no trace and no thread.
 abbrev pub EndsCheck : Option (List ℕ) → Option (List ℕ) → Option (List ℕ) → Result Bool Fault → Type 0

@@ -7,7 +7,9 @@ use Rattle.std.specs.declared.io.Read as Read
 use Rattle.std.specs.declared.io.Write as Write
 use denote.Triple.Both.{Both}
 use Rattle.pr_text.specs.declared.fault.ReadError.TheVariants as input
+use Rattle.pr_roles.specs.Scenarios.{Scenario}
 use Rattle.pr_text.specs.Texts.{answer_of}
+use Rattle.pr_text.specs.Reading.{IsWrittenAs}
 use Rattle.pr_output.specs.Written.{AppendsFront, FallsShort}
 use Rattle.pr_trace.specs.declared.trace_error.TraceError.{TraceError}
 use Rattle.pr_commands.specs.declared.fault.Fault.{Fault}
@@ -15,6 +17,15 @@ use Rattle.pr_commands.specs.declared.fault.Fault.TheVariants as fault
 use Rattle.pr_commands.specs.declared.fault.ExitStatus.{ExitStatus}
 use Rattle.pr_commands.specs.declared.fault.ExitStatus.TheVariants as status
 use Rattle.pr_commands.specs.FaultText.{fault_text, status_of}
+
+-- The text is a scenario, and these are the lines of an answer that holds of it, and whether the answer is a refusal.
+pub record IsAnswerOf {A : Type 0} (Holds : Scenario → A → Type 0) (lines_of : Scenario → A → List ℕ) (is_refusal : A → Bool) (text lines : List ℕ) (refused : Bool) : Type 0 where
+  pub scenario : Scenario
+  pub read : IsWrittenAs text scenario
+  pub answer : A
+  pub holds : Holds scenario answer
+  pub lines_are : lines ≡ lines_of scenario answer
+  pub refused_is : refused ≡ is_refusal answer
 
 -- What goes to the output, by how the command ends: over a text that is known, the whole answer and nothing else, or a
 -- front of it, or nothing. A reader or memory may fail on any text. `Answers` says which answer a text has, and whether

@@ -12,7 +12,7 @@ use Rattle.pr_witness.specs.Ends.{AreEnds, IsSought}
 use Rattle.pr_commands.specs.Asked.{asks_of, exits_of}
 use Rattle.pr_commands.specs.EndsText.{ends_text, sought_text}
 use Rattle.pr_commands.specs.declared.fault.Fault.{Fault}
-use Rattle.pr_commands.specs.Endings.{Outputs}
+use Rattle.pr_commands.specs.Endings.{IsAnswerOf, Outputs}
 
 -- all ends that come together, or a run that comes to those that are asked for
 pub data EndsAnswer : Type 0 where
@@ -38,13 +38,8 @@ is_no (sought asked (Never worlds)) = false
 is_no (sought asked (Nothing worlds bound)) = true
 
 -- the text is a scenario, and these are the lines of an answer that holds of it
-pub record AreEndsOf (words : List (List ℕ)) (text lines : List ℕ) (refused : Bool) : Type 0 where
-  pub scenario : Scenario
-  pub read : IsWrittenAs text scenario
-  pub answer : EndsAnswer
-  pub answers : Answers scenario words answer
-  pub lines_are : lines ≡ answer_text (names_in scenario) answer
-  pub refused_is : refused ≡ is_no answer
+abbrev pub AreEndsOf : List (List ℕ) → List ℕ → List ℕ → Bool → Type 0
+AreEndsOf words = IsAnswerOf (λ s answer. Answers s words answer) (λ s answer. answer_text (names_in s) answer) is_no
 
 -- the text is a scenario, of which the words ask for nothing
 abbrev pub IsMisasked : List (List ℕ) → List ℕ → Type 0

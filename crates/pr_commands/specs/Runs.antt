@@ -1,6 +1,6 @@
 -- Agrees with docs/FORMATS.md, 'Running'.
 -- What `fence run` writes.
-use Rattle.std.specs.Prelude.{◌≡◌, ℕ, ◌<◌, Bool, true, false, List, length, map, Option, IfSome, Result}
+use Rattle.std.specs.Prelude.{◌≡◌, ℕ, ◌<◌, Bool, List, length, map, Option, IfSome, Result, Ok, Err, is_err}
 use Rattle.std.specs.List.{range_with_len}
 use Rattle.pr_roles.specs.declared.item.Item.{Item}
 use Rattle.pr_roles.specs.Scenarios.{Scenario}
@@ -16,7 +16,7 @@ use Rattle.pr_trace.specs.TraceText.{name_of, names_in, trace_text}
 use Rattle.pr_report.specs.Verdicts.{verdict_text}
 use Rattle.pr_report.specs.declared.verdict.Verdict.TheVariants.{Refused}
 use Rattle.pr_commands.specs.declared.fault.Fault.{Fault}
-use Rattle.pr_commands.specs.Endings.{Outputs}
+use Rattle.pr_commands.specs.Endings.{IsAnswerOf, Outputs}
 
 -- how many commands of each nexus reached the unit
 abbrev pub counts_in : Scenario → List Item → List ℕ
@@ -26,27 +26,19 @@ abbrev pub outcome_text : Scenario → Outcome → List ℕ
 outcome_text s o =
     trace_text s.version (names_in s) o.history.items o.unit.registry (map ending_of o.ends.items) (counts_in s o.history.items)
 
--- the text is a scenario that is refused for its first reason, and this is the line of that verdict
-pub record IsRefusalOf (text line : List ℕ) : Type 0 where
-  pub scenario : Scenario
-  pub read : IsWrittenAs text scenario
-  pub reason : Refusal
-  pub first : IsFirstReason scenario reason
-  pub line_is : line ≡ verdict_text (names_in scenario) (Refused reason)
+-- The scenario is safe, and some run of it came to this outcome: of turns that led from the first start until every script was
+-- stopped and every plan done. Or it is refused for its first reason.
+abbrev pub Holds : Scenario → Result Outcome Refusal → Type 0
+Holds s (Ok outcome) = IsSafe s × IsOutcome s outcome
+Holds s (Err reason) = IsFirstReason s reason
 
--- The text is a safe scenario, and this is the trace of what some run of it came to: of turns that led from the first start
--- until every script was stopped and every plan done.
-pub record IsOutcomeOf (text trace : List ℕ) : Type 0 where
-  pub scenario : Scenario
-  pub read : IsWrittenAs text scenario
-  pub safe : IsSafe scenario
-  pub outcome : Outcome
-  pub comes : IsOutcome scenario outcome
-  pub trace_is : trace ≡ outcome_text scenario outcome
+-- the trace of that run, or the line of the verdict
+abbrev pub answer_text : Scenario → Result Outcome Refusal → List ℕ
+answer_text s (Ok outcome) = outcome_text s outcome
+answer_text s (Err reason) = verdict_text (names_in s) (Refused reason)
 
 abbrev pub IsRunOf : List ℕ → List ℕ → Bool → Type 0
-IsRunOf text answer true = IsRefusalOf text answer
-IsRunOf text answer false = IsOutcomeOf text answer
+IsRunOf = IsAnswerOf Holds answer_text is_err
 
 -- the text is a safe scenario, and this is the name of one of its nexuses
 pub record IsUnstarted (text name : List ℕ) : Type 0 where

@@ -12,7 +12,7 @@ use Rattle.pr_table.specs.TableText.{host_table_text}
 use Rattle.pr_commands.specs.declared.fault.Fault.{Fault}
 use Rattle.pr_roles.specs.Tasks.{has_script}
 use Rattle.pr_commands.specs.Checks.{Holds}
-use Rattle.pr_commands.specs.Endings.{Outputs}
+use Rattle.pr_commands.specs.Endings.{IsAnswerOf, Outputs}
 
 abbrev pub if_scripted : Scenario → ℕ → Option ℕ
 if_scripted s h = if has_script (task s h) then Some h else None
@@ -28,16 +28,13 @@ answer_text s h (Refused reason) = verdict_text (names_in s) (Refused reason)
 answer_text s h (Legal items) = verdict_text (names_in s) (Legal items)
 answer_text s h (Illegal place) = verdict_text (names_in s) (Illegal place)
 
+-- the host has this name, and the verdict holds
+abbrev pub HoldsFor : List ℕ → Scenario → ℕ × Verdict → Type 0
+HoldsFor name s a = (scripted_host s name ≡ Some a.0) × Holds s a.1
+
 -- the text is a scenario with a host of this name, and these are the lines by a verdict that holds of it
-pub record IsTableOf (name text lines : List ℕ) (refused : Bool) : Type 0 where
-  pub scenario : Scenario
-  pub read : IsWrittenAs text scenario
-  pub host : ℕ
-  pub found : scripted_host scenario name ≡ Some host
-  pub verdict : Verdict
-  pub holds : Holds verdict scenario
-  pub lines_are : lines ≡ answer_text scenario host verdict
-  pub refused_is : refused ≡ is_refusal verdict
+abbrev pub IsTableOf : List ℕ → List ℕ → List ℕ → Bool → Type 0
+IsTableOf name = IsAnswerOf (HoldsFor name) (λ s a. answer_text s a.0 a.1) (λ a. is_refusal a.1)
 
 -- the text is a scenario, in which no host has this name
 abbrev pub IsMisnamed : List ℕ → List ℕ → Type 0

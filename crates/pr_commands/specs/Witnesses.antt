@@ -1,10 +1,9 @@
 -- Agrees with docs/FORMATS.md, 'Witnesses'.
 -- What `fence witness` writes.
-use Rattle.std.specs.Prelude.{◌≡◌, ℕ, Bool, true, false, List, [], ◌∷◌, codes, Option, None, Some, Result}
+use Rattle.std.specs.Prelude.{ℕ, Bool, true, false, List, [], ◌∷◌, codes, Option, None, Some, Result}
 use Rattle.std.specs.Fmt.{decimal}
 use Rattle.pr_roles.specs.Scenarios.{Scenario}
 use Rattle.pr_roles.specs.Safety.{IsSafe}
-use Rattle.pr_text.specs.Reading.{IsWrittenAs}
 use Rattle.pr_roles.specs.declared.refusal.Refusal.{Refusal}
 use Rattle.pr_verify.specs.Verdicts.{IsFirstReason}
 use Rattle.pr_output.specs.PrintedLines.{line}
@@ -16,7 +15,7 @@ use Rattle.pr_witness.specs.declared.searching.Finding.TheVariants.{Found, Safe,
 use Rattle.pr_witness.specs.Breaches.{IsFound}
 use Rattle.pr_commands.specs.WitnessText.{witness_text}
 use Rattle.pr_commands.specs.declared.fault.Fault.{Fault}
-use Rattle.pr_commands.specs.Endings.{Outputs}
+use Rattle.pr_commands.specs.Endings.{IsAnswerOf, Outputs}
 
 -- the bound that ended a search, if one did
 abbrev pub bound_words : Option Bound → List (List ℕ)
@@ -30,9 +29,9 @@ pub data Answer : Type 0 where
   accepted : Answer
   searched : Refusal → Finding → Answer
 
-abbrev pub Holds : Answer → Scenario → Type 0
-Holds accepted s = IsSafe s
-Holds (searched refusal search) s = IsFirstReason s refusal × IsFound s refusal search
+abbrev pub Holds : Scenario → Answer → Type 0
+Holds s accepted = IsSafe s
+Holds s (searched refusal search) = IsFirstReason s refusal × IsFound s refusal search
 
 abbrev pub search_text : List (List ℕ) → Finding → List ℕ
 search_text names (Found breach is_told) = witness_text names breach is_told
@@ -54,13 +53,8 @@ is_breach accepted = false
 is_breach (searched refusal search) = is_found search
 
 -- the text is a scenario, and these are the lines of an answer that holds of it
-pub record IsWitnessOf (text lines : List ℕ) (refused : Bool) : Type 0 where
-  pub scenario : Scenario
-  pub read : IsWrittenAs text scenario
-  pub answer : Answer
-  pub holds : Holds answer scenario
-  pub lines_are : lines ≡ answer_text (names_in scenario) answer
-  pub refused_is : refused ≡ is_breach answer
+abbrev pub IsWitnessOf : List ℕ → List ℕ → Bool → Type 0
+IsWitnessOf = IsAnswerOf Holds (λ s answer. answer_text (names_in s) answer) is_breach
 
 -- What goes to the output. There are no words after the command's name that could be at fault, no trace and no thread.
 abbrev pub EndsWitness : Option (List ℕ) → Option (List ℕ) → Option (List ℕ) → Result Bool Fault → Type 0

@@ -22,9 +22,9 @@ told_plan (Some text) p (Accepted verified costs lints ends) refused read exact 
   record {
     scenario = scenario_of p;
     read = read;
-    verdict = verdict.Accepted;
+    answer = verdict.Accepted;
     holds = (holds.0, exact.0 refl);
-    line_is = refl;
+    lines_are = refl;
     refused_is = is;
   },
 )
@@ -33,9 +33,9 @@ told_plan (Some text) p (Refused scenario refusal tables finding senders forgott
   record {
     scenario = scenario_of p;
     read = read;
-    verdict = verdict.Refused refusal;
+    answer = verdict.Refused refusal;
     holds = holds.0;
-    line_is = refl;
+    lines_are = refl;
     refused_is = is;
   },
 )

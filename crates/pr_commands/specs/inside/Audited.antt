@@ -1,22 +1,16 @@
 -- A history that was audited, and its verdict not written yet.
-use Rattle.std.specs.Prelude.{◌≡◌, ℕ, List, Option, IfSome, Result, Ok, Err}
-use Rattle.pr_roles.specs.declared.item.Item.{Item}
+use Rattle.std.specs.Prelude.{ℕ, List, Option, IfSome, Result, Ok, Err}
 use Rattle.pr_roles.specs.Scenarios.{scenario_of}
 use Rattle.pr_text.specs.Reading.{IsWrittenAs}
-use Rattle.pr_trace.specs.TraceReadings.{trace_of}
-use Rattle.pr_trace.specs.TraceText.{names_in}
 use Rattle.pr_report.specs.Verdicts.{IsVerdict}
 use Rattle.pr_commands.specs.declared.audits.Audited.{Audited}
 use Rattle.pr_commands.specs.declared.fault.Fault.{Fault}
-use Rattle.pr_commands.specs.Audits.{Holds, IsTraceFault}
+use Rattle.pr_commands.specs.Audits.{HoldsOfTrace, IsTraceFault}
 use Rattle.pr_commands.specs.inside.EarlyFaults.{IsEarlyFault}
 
--- the text is this scenario, and the verdict holds of the history that the trace is read as
-pub record IsOf (text trace : List ℕ) (a : Audited) : Type 0 where
-  pub read : IsWrittenAs text (scenario_of a.scenario)
-  pub history : List Item
-  pub traced : trace_of (scenario_of a.scenario).version (names_in (scenario_of a.scenario)) trace ≡ Ok history
-  pub holds : Holds a.verdict (scenario_of a.scenario) history
+-- the text is this scenario, and the verdict holds of it and the trace
+abbrev pub IsOf : List ℕ → List ℕ → Audited → Type 0
+IsOf text trace a = IsWrittenAs text (scenario_of a.scenario) × HoldsOfTrace trace (scenario_of a.scenario) a.verdict
 
 -- the verdict on a text and a trace that are known, or their first fault
 abbrev pub IsAudited : Option (List ℕ) → Option (List ℕ) → Result Audited Fault → Type 0

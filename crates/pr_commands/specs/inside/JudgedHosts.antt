@@ -3,8 +3,6 @@ use Rattle.std.specs.Prelude.{◌≡◌, ℕ, List, Option, Some, IfSome, Result
 use Rattle.pr_roles.specs.Scenarios.{Scenario, scenario_of, task}
 use Rattle.pr_roles.specs.Tasks.{IsScripted}
 use Rattle.pr_text.specs.Reading.{IsWrittenAs}
-use Rattle.pr_report.specs.declared.verdict.Verdict.{Verdict}
-use Rattle.pr_report.specs.declared.verdict.Verdict.TheVariants as verdict
 use Rattle.pr_commands.specs.declared.fault.Fault.{Fault}
 use Rattle.pr_commands.specs.declared.tables.JudgedHost.{JudgedHost}
 use Rattle.pr_commands.specs.Tables.{IsMisnamed, answer_text, scripted_host}
@@ -14,10 +12,6 @@ use Rattle.pr_commands.specs.inside.Judgements as judged
 abbrev pub scenario_in : JudgedHost → Scenario
 scenario_in t = scenario_of (judged.scenario_in t.judgement)
 
-abbrev pub verdict_in : judged.Judgement → Verdict
-verdict_in (Ok verified) = verdict.Accepted
-verdict_in (Err refused) = verdict.Refused refused.refusal
-
 -- the host has this name and a script, and the verdict stands
 pub record StandsFor (name : List ℕ) (t : JudgedHost) : Type 0 where
   pub found : scripted_host (scenario_in t) name ≡ Some t.host
@@ -25,7 +19,7 @@ pub record StandsFor (name : List ℕ) (t : JudgedHost) : Type 0 where
   pub stands : judged.Stands t.judgement
 
 abbrev pub answered_text : JudgedHost → List ℕ
-answered_text t = answer_text (scenario_in t) t.host (verdict_in t.judgement)
+answered_text t = answer_text (scenario_in t) t.host (judged.verdict_in t.judgement)
 
 -- of the scenario of a text that is known, or its first fault
 abbrev pub IsJudgedFor : List ℕ → Option (List ℕ) → Result JudgedHost Fault → Type 0

@@ -6,10 +6,12 @@ use Rattle.pr_roles.specs.Safety.{IsSafe}
 use Rattle.pr_text.specs.Reading.{IsWrittenAs}
 use Rattle.pr_verify.specs.declared.verifying.Refused.{Refused}
 use Rattle.pr_verify.specs.Outlines.{HaveOutlines}
-use Rattle.pr_verify.specs.Verdicts.{IsFirstReason, IsVerdict}
+use Rattle.pr_verify.specs.Verdicts.{IsVerdict}
 use Rattle.pr_trace.specs.TraceText.{names_in}
 use Rattle.pr_report.specs.Verdicts.{verdict_text}
+use Rattle.pr_report.specs.declared.verdict.Verdict.{Verdict}
 use Rattle.pr_report.specs.declared.verdict.Verdict.TheVariants as verdict
+use Rattle.pr_commands.specs.Checks.{Holds}
 use Rattle.pr_commands.specs.declared.fault.Fault.{Fault}
 use Rattle.pr_commands.specs.inside.EarlyFaults.{IsEarlyFault}
 
@@ -21,10 +23,13 @@ abbrev pub scenario_in : Judgement → Parts
 scenario_in (Ok verified) = verified
 scenario_in (Err refused) = refused.scenario
 
--- what is verified is safe and has outlines, and what is refused is so for its first reason
+abbrev pub verdict_in : Judgement → Verdict
+verdict_in (Ok verified) = verdict.Accepted
+verdict_in (Err refused) = verdict.Refused refused.refusal
+
+-- the verdict holds
 abbrev pub Stands : Judgement → Type 0
-Stands (Ok verified) = IsSafe (scenario_of verified) × HaveOutlines (scenario_of verified)
-Stands (Err refused) = IsFirstReason (scenario_of refused.scenario) refused.refusal
+Stands j = Holds (scenario_of (scenario_in j)) (verdict_in j)
 
 -- what a verification answers: what stands, or that memory was refused
 abbrev pub IsVerified : Judgement → Type 0
@@ -32,8 +37,7 @@ IsVerified (Ok verified) = IsSafe (scenario_of verified) × HaveOutlines (scenar
 IsVerified (Err refused) = IsVerdict (scenario_of refused.scenario) refused.refusal
 
 abbrev pub judgement_text : Judgement → List ℕ
-judgement_text (Ok verified) = verdict_text (names_in (scenario_of verified)) verdict.Accepted
-judgement_text (Err refused) = verdict_text (names_in (scenario_of refused.scenario)) (verdict.Refused refused.refusal)
+judgement_text j = verdict_text (names_in (scenario_of (scenario_in j))) (verdict_in j)
 
 -- of the scenario of a text that is known, or its first fault
 abbrev pub IsJudged : Option (List ℕ) → Result Judgement Fault → Type 0

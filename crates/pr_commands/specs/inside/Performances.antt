@@ -2,20 +2,17 @@
 use Rattle.std.specs.Prelude.{◌≡◌, ℕ, ◌<◌, List, length, Option, IfSome, Result, Ok, Err}
 use Rattle.pr_roles.specs.declared.parts.Parts.{Parts}
 use Rattle.pr_roles.specs.Scenarios.{Scenario, scenario_of}
-use Rattle.pr_roles.specs.Safety.{IsSafe}
 use Rattle.pr_text.specs.Reading.{IsWrittenAs}
 use Rattle.pr_verify.specs.declared.verifying.Refused.{Refused}
-use Rattle.pr_verify.specs.Verdicts.{IsFirstReason}
+use Rattle.pr_roles.specs.declared.refusal.Refusal.{Refusal}
 use Rattle.pr_shared.specs.declared.run_error.RunError.{RunError}
 use Rattle.pr_shared.specs.declared.run_error.RunError.TheVariants as error
-use Rattle.pr_shared.specs.Outcomes.{IsOutcome}
+use Rattle.pr_shared.specs.declared.outcome.Outcome.{Outcome}
 use Rattle.pr_trace.specs.TraceText.{name_of, names_in}
-use Rattle.pr_report.specs.Verdicts.{verdict_text}
-use Rattle.pr_report.specs.declared.verdict.Verdict.TheVariants as verdict
 use Rattle.pr_commands.specs.declared.fault.Fault.{Fault}
 use Rattle.pr_commands.specs.declared.fault.Fault.TheVariants as fault
 use Rattle.pr_commands.specs.declared.runs.Ran.{Ran}
-use Rattle.pr_commands.specs.Runs.{IsUnstarted, outcome_text}
+use Rattle.pr_commands.specs.Runs.{Holds, IsUnstarted, answer_text}
 use Rattle.pr_commands.specs.inside.EarlyFaults.{IsEarlyFault}
 
 abbrev pub Performed : Type 0
@@ -25,14 +22,15 @@ abbrev pub scenario_in : Performed → Parts
 scenario_in (Ok ran) = ran.scenario
 scenario_in (Err refused) = refused.scenario
 
--- what is run is safe and came to an outcome, and what is refused is so for its first reason
+abbrev pub answer_in : Performed → Result Outcome Refusal
+answer_in (Ok ran) = Ok ran.outcome
+answer_in (Err refused) = Err refused.refusal
+
 abbrev pub Stands : Performed → Type 0
-Stands (Ok ran) = IsSafe (scenario_of ran.scenario) × IsOutcome (scenario_of ran.scenario) ran.outcome
-Stands (Err refused) = IsFirstReason (scenario_of refused.scenario) refused.refusal
+Stands p = Holds (scenario_of (scenario_in p)) (answer_in p)
 
 abbrev pub performed_text : Performed → List ℕ
-performed_text (Ok ran) = outcome_text (scenario_of ran.scenario) ran.outcome
-performed_text (Err refused) = verdict_text (names_in (scenario_of refused.scenario)) (verdict.Refused refused.refusal)
+performed_text p = answer_text (scenario_of (scenario_in p)) (answer_in p)
 
 -- it tells of the one whose thread was not started, by this name
 abbrev pub TellsOf : List ℕ → Fault → Type 0

@@ -22,7 +22,7 @@ abbrev pub witnessed_text : Witnessed → List ℕ
 witnessed_text w = answer_text (names_under (scenario_in w)) (answer_in w)
 
 abbrev pub Stands : Witnessed → Type 0
-Stands w = Holds (answer_in w) (scenario_of (scenario_in w))
+Stands w = Holds (scenario_of (scenario_in w)) (answer_in w)
 
 -- of the scenario of a text that is known, or its first fault
 abbrev pub IsWitnessed : Option (List ℕ) → Result Witnessed Fault → Type 0

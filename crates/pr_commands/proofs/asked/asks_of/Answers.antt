@@ -1,5 +1,5 @@
 -- One word after another.
-use Rattle.pr_commands.proofs.Common.{◌≡◌, ℕ, ◌+◌, true, false, List, length, drop, Option, Some, None, sym, ap, ◌∙◌, arith, map, replicate, slice_index_or, Parts, scenario_of, task, End, names_in, names_of, has_script, ask_of, asks_from, exits_of}
+use Rattle.pr_commands.proofs.Common.{◌≡◌, ℕ, ◌+◌, true, false, List, length, drop, Option, Some, None, sym, ap, ◌∙◌, arith, map, replicate, slice_index_or, Parts, scenario_of, task, End, names_in, names_of, has_script, ask_of, asks_from, exits_of, names_of_scenario}
 use Rattle.std.proofs.Common.{◌&&◌, option_map}
 use Rattle.std.specs.Prelude.{slice_set}
 use Rattle.std.specs.Borrow.{Bor}
@@ -8,7 +8,7 @@ use Rattle.pr_explore.specs.Exits.{Exit}
 use Rattle.pr_explore.specs.Together.{exit_in}
 use Rattle.pr_commands.specs.Asked.{is_free}
 use Rattle.pr_commands.proofs.lemmas.Ends.Asks.{ask_more, ask_none, ask_twice, exits_set, nothing_asked}
-use Rattle.pr_commands.proofs.lemmas.Replays.Plans.{names_of_scenario, nexuses_in}
+use Rattle.pr_commands.proofs.lemmas.Replays.Plans.{nexuses_in}
 use Rattle.pr_commands.proofs.lemmas.Steps.Words.{few_nexuses}
 use Rattle.pr_commands.proofs.asked.asks_of.Goals as goal
 use Rattle.pr_commands.proofs.asked.asks_of.Goals.{then-not-has_script-via-then-not-has_script, then-not-has_script-via-else-not-has_script+then-not-is_free}

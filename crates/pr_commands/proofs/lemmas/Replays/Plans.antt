@@ -1,12 +1,12 @@
 -- What is planned is the trace of the text's scheduled run.
-use Rattle.pr_commands.proofs.Common.{map, option_map, option_and_then, IfSome, refl, sym, ap, ◌∙◌, subst, arith, Parts, scenario_of, IsWrittenAs, names_in, names_of, steps_of}
+use Rattle.pr_commands.proofs.Common.{map, option_map, option_and_then, IfSome, refl, sym, ap, ◌∙◌, subst, arith, Parts, scenario_of, IsWrittenAs, names_in, steps_of}
 use Rattle.std.specs.Prelude.{◌≡◌, ℕ, ◌≤◌, ◌==◌, ◌||◌, Bool, true, false, nat_lt, List, [], ◌∷◌, length, Option, Some, None, Ok, Err}
 use Rattle.std.proofs.lemmas.Bool.{false≢true}
 use Rattle.std.proofs.lemmas.List.{length-map}
 use Rattle.std.proofs.lemmas.Bool.Decides.{nat_tests}
 use Rattle.std.proofs.lemmas.Option.{none-some, same_Some}
 use Rattle.pr_roles.specs.declared.step.Step.{Step}
-use Rattle.pr_roles.proofs.lemmas.Fitting.DistinctLists.{names_of_parts, length_of_parts}
+use Rattle.pr_roles.proofs.lemmas.Fitting.DistinctLists.{length_of_parts}
 use Rattle.pr_world.specs.declared.replaying.Replayed.{Replayed}
 use Rattle.pr_world.specs.Replays.{IsReplayed}
 use Rattle.pr_commands.proofs.lemmas.Replays.Traces.{replays_are_traced}
@@ -14,11 +14,6 @@ use Rattle.pr_commands.specs.declared.fault.Fault.TheVariants as fault
 use Rattle.pr_commands.specs.Steps.{step_in, has_wrong_count}
 use Rattle.pr_commands.specs.Replays.{IsTraceOf, IsUsageFault}
 use Rattle.pr_commands.specs.inside.PlannedReplays.{planned_text, is_refused, IsPlanned}
-
--- the names of a scenario are those of its parts
-pub names_of_scenario : (p : Parts) → names_of p.nexuses.items ≡ names_in (scenario_of p)
-unfolding scenario_of
-names_of_scenario p = sym (names_of_parts p.nexuses.items)
 
 pub version_of_scenario : (p : Parts) → p.version ≡ (scenario_of p).version
 unfolding scenario_of

@@ -1,5 +1,5 @@
 -- A scenario that was run or refused, and what is written of it.
-use Rattle.pr_commands.proofs.Common.{◌≡◌, ℕ, ◌<◌, ◌≤◌, Bool, true, List, [], ◌∷◌, zero, suc, Option, Some, None, Result, Ok, Err, refl, sym, ap, ◌∙◌, subst, arith, IfSome, IsErrAnd, is_err, map, slice_index_or, range_with_len, slice_get, Appends, Parts, Scenario, scenario_of, task, commands_by, IsWrittenAs, End, ending_of, name_of, names_in, names_of, FallsShort, Fault, Judgement}
+use Rattle.pr_commands.proofs.Common.{◌≡◌, ℕ, ◌<◌, ◌≤◌, true, List, [], ◌∷◌, zero, suc, Option, Some, None, Ok, Err, refl, sym, ap, ◌∙◌, subst, arith, IfSome, is_err, map, slice_index_or, range_with_len, slice_get, Parts, Scenario, scenario_of, task, commands_by, IsWrittenAs, End, ending_of, name_of, names_in, names_of, Fault, Judgement}
 use Rattle.std.proofs.Common.{◌^◌}
 use Rattle.std.specs.Prelude.{length}
 use Rattle.std.specs.List.{list_all}
@@ -19,47 +19,16 @@ use Rattle.pr_shared.specs.declared.outcome.Outcome.{Outcome}
 use Rattle.pr_shared.specs.Outcomes.{IsOutcome}
 use Rattle.pr_trace.specs.TraceText.{trace_text}
 use Rattle.pr_commands.specs.declared.fault.Fault.TheVariants as fault
-use Rattle.pr_commands.specs.Runs.{EndsRun, IsRunOf, counts_in, outcome_text}
-use Rattle.pr_commands.specs.inside.Performances.{Performed, IsPerformed, IsRunFault, Stands, performed_text, scenario_in}
+use Rattle.pr_commands.specs.Runs.{counts_in, outcome_text}
+use Rattle.pr_commands.specs.inside.Performances.{Performed, IsPerformed, IsRunFault, answer_in}
 use Rattle.pr_commands.specs.inside.Judgements.{Stands as Judged, scenario_in as judged_in}
 use Rattle.pr_commands.specs.declared.runs.Ran.{Ran}
 
--- ---- what is written
+-- ---- whether it is refused
 
-run_of : (text : List ℕ) (p : Performed) → IsWrittenAs text (scenario_of (scenario_in p)) → Stands p → IsRunOf text (performed_text p) (is_err p)
-run_of text (Ok ran) written stands = record {
-  scenario = scenario_of ran.scenario;
-  read = written;
-  safe = stands.0;
-  outcome = ran.outcome;
-  comes = stands.1;
-  trace_is = refl;
-}
-run_of text (Err back) written stands = record {
-  scenario = scenario_of back.scenario;
-  read = written;
-  reason = back.refusal;
-  first = stands;
-  line_is = refl;
-}
-
-pub whole_run : (known old new : Option (List ℕ)) (p : Performed) (refused : Bool) → IfSome known (λ text. IsWrittenAs text (scenario_of (scenario_in p))) → Stands p
-    → refused ≡ is_err p → Appends old new (performed_text p) → EndsRun known old new (Ok refused)
-whole_run None old new p refused read stands is wrote = tt
-whole_run (Some text) old new p refused read stands is wrote =
-    (performed_text p, subst (IsRunOf text (performed_text p)) (sym is) (run_of text p read stands), wrote)
-
-front_of_run : (known old new : Option (List ℕ)) (p : Performed) → IfSome known (λ text. IsWrittenAs text (scenario_of (scenario_in p))) → Stands p
-    → FallsShort old new (performed_text p) → EndsRun known old new (Err fault.Output)
-front_of_run None old new p read stands short = tt
-front_of_run (Some text) old new p read stands short = (performed_text p, is_err p, run_of text p read stands, short)
-
--- the writer failed
-pub cut_run : (known old new : Option (List ℕ)) (p : Performed) (r : Result Bool Fault) → IfSome known (λ text. IsWrittenAs text (scenario_of (scenario_in p))) → Stands p
-    → FallsShort old new (performed_text p) → IsErrAnd r (λ f. f ≡ fault.Output) → EndsRun known old new r
-cut_run known old new p (Ok refused) read stands short failed = absurd failed
-cut_run known old new p (Err f) read stands short failed =
-    subst (λ f. EndsRun known old new (Err f)) (sym failed) (front_of_run known old new p read stands short)
+pub is_refused : (p : Performed) → is_err p ≡ is_err (answer_in p)
+is_refused (Ok ran) = refl
+is_refused (Err back) = refl
 
 -- ---- counts
 

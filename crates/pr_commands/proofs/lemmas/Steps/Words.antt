@@ -37,10 +37,6 @@ pub named_none : (version : ℕ) (names : List (List ℕ)) (w : List ℕ) (ws : 
 named_none version names w ws steps none =
     ap (λ o. onto steps (option_and_then (λ s. option_map (λ more. s ∷ more) (steps_of version names ws)) o)) none
 
--- all words were looked at
-pub named_all : (version : ℕ) (names : List (List ℕ)) (steps : List Step) → onto steps (steps_of version names []) ≡ Some steps
-named_all version names steps = ap Some (append-none steps)
-
 -- one nexus more is there
 pub all_more : (n : ℕ) (step : Step) (steps : List Step) → All (IsThere n) steps → IsThere n step → All (IsThere n) (steps ++ step ∷ [])
 all_more n step steps all there = All-append (IsThere n) steps (step ∷ []) all one

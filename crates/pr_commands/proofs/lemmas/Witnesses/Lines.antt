@@ -1,5 +1,5 @@
 -- How the lines of a witness go out, one for each nexus.
-use Rattle.pr_commands.proofs.Common.{◌≡◌, ℕ, ◌+◌, ◌<◌, ◌≤◌, Bool, List, ◌++◌, drop, length, Option, refl, ap, ◌∙◌, subst, arith, flat_map, range_with_len, Appends, FallsShort, Wrote, flat_map_end, flat_map_from, wrote_all, wrote_front, wrote_more, pending_line}
+use Rattle.pr_commands.proofs.Common.{◌≡◌, ℕ, ◌+◌, ◌<◌, ◌≤◌, Bool, List, ◌++◌, drop, length, Option, ap, ◌∙◌, subst, arith, flat_map, range_with_len, Appends, FallsShort, Wrote, flat_map_end, flat_map_from, wrote_all, wrote_front, wrote_more, pending_line}
 use Rattle.std.proofs.Common.{zero-add}
 use Rattle.std.proofs.lemmas.List.FromFn.{get_or-range_with_len, length-range_with_len}
 

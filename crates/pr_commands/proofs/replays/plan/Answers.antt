@@ -1,7 +1,7 @@
 -- The scenario that was read, its steps, and its replay.
-use Rattle.pr_commands.proofs.Common.{◌≡◌, List, ℕ, length, Some, sym, ap, ◌∙◌, subst, arith, map, option_map, IfSome, All, scenario_of, IsThere, names_in, names_of, steps_of}
+use Rattle.pr_commands.proofs.Common.{◌≡◌, List, ℕ, length, Some, sym, ap, ◌∙◌, subst, arith, map, option_map, IfSome, All, scenario_of, IsThere, names_in, names_of, steps_of, names_of_scenario}
 use Rattle.pr_commands.proofs.lemmas.Steps.Words.{few_nexuses}
-use Rattle.pr_commands.proofs.lemmas.Replays.Plans.{names_of_scenario, version_of_scenario, nexuses_in, named_length, planned, unnamed, few_steps}
+use Rattle.pr_commands.proofs.lemmas.Replays.Plans.{version_of_scenario, nexuses_in, named_length, planned, unnamed, few_steps}
 use Rattle.pr_commands.proofs.replays.plan.Goals as goal
 
 pub steps_of-requires : goal.steps_of-requires

@@ -1,8 +1,8 @@
-use Rattle.pr_commands.proofs.Common.{◌≡◌, ◌<◌, length, sym, ap, ◌∙◌, subst, arith, scenario_of, name_of, names_in, names_of}
+use Rattle.pr_commands.proofs.Common.{◌≡◌, ◌<◌, length, sym, ap, ◌∙◌, subst, arith, scenario_of, name_of, names_in, names_of, names_of_scenario}
 use Rattle.pr_shared.specs.RunAnswers.{IfSpawn}
 use Rattle.pr_commands.specs.declared.fault.Fault.TheVariants as fault
 use Rattle.pr_commands.specs.inside.Performances.{IsFaultFor}
-use Rattle.pr_commands.proofs.lemmas.Replays.Plans.{names_of_scenario, nexuses_in}
+use Rattle.pr_commands.proofs.lemmas.Replays.Plans.{nexuses_in}
 use Rattle.pr_commands.proofs.runs.fault_for.Goals as goal
 
 pub name_at-requires : goal.name_at-requires

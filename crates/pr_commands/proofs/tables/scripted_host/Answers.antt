@@ -1,10 +1,9 @@
 -- The nexus with this name, if it has a script.
-use Rattle.pr_commands.proofs.Common.{◌≡◌, ℕ, List, Some, None, Option, Bool, length, true, false, sym, ap, ◌∙◌, arith, option_and_then, Parts, Scenario, scenario_of, task, names_in, names_of, has_script}
+use Rattle.pr_commands.proofs.Common.{◌≡◌, ℕ, List, Some, None, Option, Bool, length, true, false, sym, ap, ◌∙◌, arith, option_and_then, Parts, Scenario, scenario_of, task, names_in, names_of, has_script, names_of_scenario}
 use Rattle.std.proofs.Common.{if◌then◌else◌}
 use Rattle.pr_roles.specs.declared.parts.Nexus.{Nexus}
 use Rattle.pr_trace.specs.TraceReadings.{number_of}
 use Rattle.pr_commands.specs.Tables.{if_scripted, scripted_host}
-use Rattle.pr_commands.proofs.lemmas.Replays.Plans.{names_of_scenario}
 use Rattle.pr_commands.proofs.lemmas.Steps.Words.{few_nexuses}
 use Rattle.pr_commands.proofs.tables.scripted_host.Goals as goal
 
