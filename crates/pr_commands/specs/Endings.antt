@@ -45,6 +45,19 @@ Outputs Answers Misused Untraced Unstarted Differs known old new (Err (fault.Thr
 Outputs Answers Misused Untraced Unstarted Differs known old new (Err fault.History) = Differs × Keeps old new
 Outputs Answers Misused Untraced Unstarted Differs known old new (Err fault.File) = ⊥
 
+-- A fault that a command may tell of: a reader and memory may fail on any text, and a text that is known has its own fault.
+-- `Unwritten` says that the writer may fail, and what else there can be is given as for the output.
+abbrev pub IsFault : Type 0 → (TraceError → Type 0) → (List ℕ → Type 0) → Type 0 → Type 0 → Option (List ℕ) → Fault → Type 0
+IsFault Misused Untraced Unstarted Differs Unwritten known fault.Usage = Misused
+IsFault Misused Untraced Unstarted Differs Unwritten known fault.File = ⊥
+IsFault Misused Untraced Unstarted Differs Unwritten known (fault.Input input.ReadFault) = Unit {0}
+IsFault Misused Untraced Unstarted Differs Unwritten known (fault.Input e) = IfSome known (λ text. answer_of text ≡ Err e)
+IsFault Misused Untraced Unstarted Differs Unwritten known (fault.Trace e) = Untraced e
+IsFault Misused Untraced Unstarted Differs Unwritten known (fault.Thread name) = Unstarted name.bytes
+IsFault Misused Untraced Unstarted Differs Unwritten known fault.History = Differs
+IsFault Misused Untraced Unstarted Differs Unwritten known fault.Memory = Unit {0}
+IsFault Misused Untraced Unstarted Differs Unwritten known fault.Output = Unwritten
+
 abbrev pub status_of_end : Result Bool Fault → ExitStatus
 status_of_end (Ok refused) = if refused then status.Refused else status.Done
 status_of_end (Err f) = status_of f

@@ -1,16 +1,14 @@
 -- A history of which it is planned what is told, and nothing written yet.
 use Rattle.std.specs.Prelude.{◌≡◌, ℕ, List, Option, IfSome, Result, Ok, Err}
 use Rattle.pr_roles.specs.Scenarios.{scenario_of}
-use Rattle.pr_text.specs.declared.fault.ReadError.TheVariants as input
-use Rattle.pr_text.specs.Texts.{answer_of}
 use Rattle.pr_text.specs.Reading.{IsWrittenAs}
 use Rattle.pr_trace.specs.TraceReadings.{trace_of}
 use Rattle.pr_trace.specs.TraceText.{names_in}
 use Rattle.pr_words.specs.Tellings.{IsTold}
 use Rattle.fence.specs.declared.traced.Traced.{Traced}
 use Rattle.pr_commands.specs.declared.fault.Fault.{Fault}
-use Rattle.pr_commands.specs.declared.fault.Fault.TheVariants as fault
 use Rattle.pr_commands.specs.Audits.{IsTraceFault}
+use Rattle.pr_commands.specs.Endings.{IsFault}
 
 -- the text is this scenario, the trace is read as this history, and what is told of it holds
 pub record IsOf (text trace : List ℕ) (t : Traced) : Type 0 where
@@ -21,12 +19,5 @@ pub record IsOf (text trace : List ℕ) (t : Traced) : Type 0 where
 -- what is told of a text and a trace that are known, or their first fault
 abbrev pub IsTraced : Option (List ℕ) → Option (List ℕ) → Result Traced Fault → Type 0
 IsTraced known traced (Ok t) = IfSome known (λ text. IfSome traced (λ trace. IsOf text trace t))
-IsTraced known traced (Err fault.Usage) = ⊥
-IsTraced known traced (Err fault.File) = ⊥
-IsTraced known traced (Err (fault.Input input.ReadFault)) = Unit {0}
-IsTraced known traced (Err (fault.Input e)) = IfSome known (λ text. answer_of text ≡ Err e)
-IsTraced known traced (Err (fault.Trace e)) = IfSome known (λ text. IfSome traced (λ trace. IsTraceFault text trace e))
-IsTraced known traced (Err (fault.Thread name)) = ⊥
-IsTraced known traced (Err fault.History) = ⊥
-IsTraced known traced (Err fault.Memory) = Unit {0}
-IsTraced known traced (Err fault.Output) = ⊥
+IsTraced known traced (Err f) =
+    IsFault ⊥ (λ e. IfSome known (λ text. IfSome traced (λ trace. IsTraceFault text trace e))) (λ name. ⊥) ⊥ ⊥ known f
