@@ -13,23 +13,12 @@ pub(crate) fn add_of_beginnings(lints: &mut Vec<Lint>, parts: &Parts) -> Result<
             lints.push(Lint::NoSuchReservation { alternative })?;
         }
     }
-    add_of_starts(lints, parts)
-}
-
-fn add_of_starts(lints: &mut Vec<Lint>, parts: &Parts) -> Result<(), AllocError> {
-    let mut host: u8 = 0;
-    for nexus in &parts.nexuses {
-        if has_free(nexus) && !may_be_free(parts, host) {
+    for (host, nexus) in (0..u8::MAX).zip(&parts.nexuses) {
+        if nexus.start.alternatives.contains(&None) && !may_be_free(parts, host) {
             lints.push(Lint::NoSuchStart { host })?;
         }
-        host = host.saturating_add(1);
     }
     Ok(())
-}
-
-// Whether not being registered is one of the alternatives of the nexus.
-fn has_free(nexus: &Nexus) -> bool {
-    nexus.start.alternatives.iter().any(|key| key.is_none())
 }
 
 // Whether some state has this reservation.

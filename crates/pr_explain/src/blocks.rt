@@ -4,9 +4,14 @@
 use crate::source::{first_word, is, line_of};
 use arrayvec::ArrayVec;
 
+// Whether this word begins a send or a repeat.
+fn opens(word: &[u8]) -> bool {
+    is(word, "send") || is(word, "repeat")
+}
+
 /// How many sends and repeats are open behind a line that begins with this word, by those before it.
 pub(crate) fn depth_behind(depth: u32, word: &[u8]) -> u32 {
-    if is(word, "send") || is(word, "repeat") {
+    if opens(word) {
         depth.saturating_add(1)
     } else if is(word, "done") {
         depth.saturating_sub(1)
@@ -17,14 +22,11 @@ pub(crate) fn depth_behind(depth: u32, word: &[u8]) -> u32 {
 
 /// The index of the line that ends the send which begins at this index.
 pub(crate) fn end_of(lines: &[&[u8]], first: usize) -> usize {
-    let Some(rest) = lines.get(first..) else {
-        return first;
-    };
     let mut depth = 0;
-    for (place, line) in rest.iter().enumerate() {
+    for (index, line) in lines.iter().enumerate().skip(first) {
         depth = depth_behind(depth, first_word(line));
         if depth == 0 {
-            return first.saturating_add(place);
+            return index;
         }
     }
     first
@@ -32,16 +34,13 @@ pub(crate) fn end_of(lines: &[&[u8]], first: usize) -> usize {
 
 /// The index of the line of its arm with this number, from 0.
 pub(crate) fn arm_of(lines: &[&[u8]], first: usize, arm: usize) -> usize {
-    let Some(rest) = lines.get(first..) else {
-        return first;
-    };
     let mut depth = 0;
     let mut left = arm;
-    for (place, line) in rest.iter().enumerate() {
+    for (index, line) in lines.iter().enumerate().skip(first) {
         let word = first_word(line);
         if depth == 1 && is(word, "on") {
             if left == 0 {
-                return first.saturating_add(place);
+                return index;
             }
             left -= 1;
         }
@@ -92,24 +91,12 @@ impl OpenSends {
 
 /// Whether the arm on the line with this index begins with a send without arms, which says that it is never sent.
 pub(crate) fn is_denied(lines: &[&[u8]], arm: usize) -> bool {
-    let Some(rest) = lines.get(arm.saturating_add(1)..) else {
-        return false;
-    };
-    let mut is_in_send = false;
-    for line in rest {
-        let word = first_word(line);
-        if word.is_empty() {
-            continue;
-        }
-        if is_in_send {
-            return is(word, "done");
-        }
-        if !is(word, "send") {
-            return false;
-        }
-        is_in_send = true;
-    }
-    false
+    let behind = lines.iter().skip(arm.saturating_add(1));
+    let mut words = behind
+        .map(|line| first_word(line))
+        .filter(|word| !word.is_empty());
+    words.next().is_some_and(|word| is(word, "send"))
+        && words.next().is_some_and(|word| is(word, "done"))
 }
 
 /// How many statements the script of this name has.
@@ -117,38 +104,24 @@ pub(crate) fn statements_in(lines: &[&[u8]], name: &[u8]) -> usize {
     let Some(first) = line_of(lines, b"script", name, 0) else {
         return 0;
     };
-    let mut count = 0_usize;
-    for (index, line) in lines.iter().enumerate() {
-        let word = first_word(line);
-        if index > first && is(word, "end") {
-            return count;
-        }
-        if index > first && is_statement(word) {
-            count = count.saturating_add(1);
-        }
-    }
-    count
+    let words = lines.iter().skip(first).map(|line| first_word(line));
+    words
+        .take_while(|word| !is(word, "end"))
+        .filter(|word| is_statement(word))
+        .count()
 }
 
 fn is_statement(word: &[u8]) -> bool {
-    ["send", "repeat", "break", "stop"]
-        .into_iter()
-        .any(|it| is(word, it))
+    opens(word) || is(word, "break") || is(word, "stop")
 }
 
 /// Whether something is sent in the arm on the line with this index. A repeat sends something.
 pub(crate) fn sends_in_arm(lines: &[&[u8]], arm: usize) -> bool {
-    let Some(rest) = lines.get(arm.saturating_add(1)..) else {
-        return false;
-    };
-    for line in rest {
-        let word = first_word(line);
-        if is(word, "send") || is(word, "repeat") {
-            return true;
-        }
-        if is(word, "on") || is(word, "done") {
-            return false;
-        }
-    }
-    false
+    let mut words = lines
+        .iter()
+        .skip(arm.saturating_add(1))
+        .map(|line| first_word(line));
+    words
+        .find(|word| opens(word) || is(word, "on") || is(word, "done"))
+        .is_some_and(opens)
 }

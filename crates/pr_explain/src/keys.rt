@@ -26,17 +26,13 @@ fn permits_key(action: Action, key: u64) -> bool {
 
 /// Whether the start, the role or the plan of the nexus names this key.
 pub(crate) fn declares_key(nexus: &Nexus, key: u64) -> bool {
-    starts_with_key(&nexus.start.alternatives, key)
+    nexus.start.alternatives.contains(&Some(key))
         || nexus
             .role
             .clauses
             .iter()
             .any(|clause| permits_key(clause.action, key))
         || plans_key(&nexus.task, key)
-}
-
-fn starts_with_key(alternatives: &[Option<u64>], key: u64) -> bool {
-    alternatives.iter().any(|known| *known == Some(key))
 }
 
 fn plans_key(task: &Task, key: u64) -> bool {

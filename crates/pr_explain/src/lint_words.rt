@@ -3,7 +3,7 @@
 use crate::blocks::{arm_of, is_denied, sends_in_arm};
 use crate::lint::Lint;
 use crate::running::changes;
-use crate::source::{dropped_line, keys_line, line_of, reservation_line};
+use crate::source::{dropped_line, line_of, line_with};
 use pr_output::{Token, WriteFault, put};
 use pr_registry::Held;
 use pr_roles::{Nexus, Parts};
@@ -221,7 +221,7 @@ pub(crate) fn put_widening<W: Write>(
 }
 
 fn put_not_used<W: Write>(writer: &mut W, lines: &[&[u8]], key: u64) -> Result<(), WriteFault> {
-    if let Some(index) = keys_line(lines) {
+    if let Some(index) = line_with(lines, "keys") {
         put_numbered(writer, lines, index)?;
     }
     match dropped_line(lines, key) {
@@ -253,7 +253,7 @@ fn put_no_reservation<W: Write>(
     parts: &Parts,
     alternative: usize,
 ) -> Result<(), WriteFault> {
-    if let Some(index) = reservation_line(lines) {
+    if let Some(index) = line_with(lines, "reservation") {
         put_numbered(writer, lines, index)?;
     }
     match parts.reservations.get(alternative) {

@@ -70,12 +70,10 @@ fn add_of_send(lints: &mut Vec<Lint>, host: u8, line: u32, row: &Row) -> Result<
 
 // The first of the arms above this one that takes all that it waits for.
 fn first_covering(tests: &[Test], arm: usize, test: Test) -> Option<usize> {
-    for (above, other) in tests.iter().enumerate() {
-        if above < arm && covers(*other, test) {
-            return Some(above);
-        }
-    }
-    None
+    tests
+        .iter()
+        .take(arm)
+        .position(|above| covers(*above, test))
 }
 
 fn add_of_role(lints: &mut Vec<Lint>, nexuses: &[Nexus], table: &Table) -> Result<(), AllocError> {

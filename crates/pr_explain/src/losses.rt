@@ -24,27 +24,29 @@ pub(crate) struct Loss {
 /// The unit before the last command of the run.
 pub(crate) fn unit_before_last(breach: &Breach) -> Unit {
     let mut unit = breach.run.start.copy();
-    for (index, item) in breach.run.history.iter().enumerate() {
-        if is_before_last(breach, index) {
-            go_past(&mut unit, item);
-        }
+    for item in before_last(breach) {
+        go_past(&mut unit, item);
     }
     unit
 }
 
-fn is_before_last(breach: &Breach, index: usize) -> bool {
-    index.saturating_add(1) < breach.run.history.len()
+// The run without its last command.
+fn before_last(breach: &Breach) -> &[Item] {
+    match breach.run.history.split_last() {
+        Some((_, before)) => before,
+        None => &[],
+    }
 }
 
 /// The last command, before the last of the run, behind which this no longer held of the nexus.
 pub(crate) fn loss_of(breach: &Breach, host: u8, condition: Condition) -> Option<Loss> {
     let mut unit = breach.run.start.copy();
     let mut loss = None;
-    for (index, item) in breach.run.history.iter().enumerate() {
+    for (index, item) in before_last(breach).iter().enumerate() {
         let before = unit.registry().held();
         let was_met = is_met(condition, &unit, host);
         go_past(&mut unit, item);
-        if was_met && !is_met(condition, &unit, host) && is_before_last(breach, index) {
+        if was_met && !is_met(condition, &unit, host) {
             loss = Some(Loss {
                 index,
                 before,
@@ -58,10 +60,9 @@ pub(crate) fn loss_of(breach: &Breach, host: u8, condition: Condition) -> Option
 /// The first command of the nexus behind this one, and before the last of the run, that was told of what another did: it ended in
 /// RESERVATION CONFLICT, or in an attention that a command of another leaves.
 pub(crate) fn told_behind(breach: &Breach, host: u8, index: usize) -> Option<(usize, &Entry)> {
-    for (later, item) in breach.run.history.iter().enumerate() {
+    for (later, item) in before_last(breach).iter().enumerate() {
         if let Item::Sent(entry) = item
             && later > index
-            && is_before_last(breach, later)
             && entry.host == host
             && tells(&entry.reply)
         {
@@ -78,11 +79,14 @@ fn tells(reply: &Reply) -> bool {
 
 /// Who sent this item of the run, and which command it is.
 pub(crate) fn command_at(history: &[Item], index: usize) -> Option<(u8, Command)> {
-    match history.get(index) {
-        Some(Item::Sent(entry)) => match decode(&entry.wire.cdb, &entry.wire.params) {
-            Ok(Request::Plain(command)) => Some((entry.host, command)),
-            Ok(Request::Faulty(_)) | Err(_) => None,
-        },
-        Some(Item::Reset) | None => None,
+    let entry = history.get(index)?.entry()?;
+    Some((entry.host, command_of(entry)?))
+}
+
+/// Which command was sent, if its bytes are one.
+pub(crate) fn command_of(entry: &Entry) -> Option<Command> {
+    match decode(&entry.wire.cdb, &entry.wire.params) {
+        Ok(Request::Plain(command)) => Some(command),
+        Ok(Request::Faulty(_)) | Err(_) => None,
     }
 }

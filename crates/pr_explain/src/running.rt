@@ -6,7 +6,7 @@ use crate::linting::is_needed;
 use crate::planning::SHOWN_BOUNDS;
 use crate::refusing::row_at;
 use crate::senders::SentBy;
-use crate::source::{first_word, is, line_of};
+use crate::source::{line_of, line_with};
 use crate::unseen::put_unseen;
 use pr_output::{WriteFault, put};
 use pr_roles::{Action, Clause, Item, Nexus};
@@ -136,24 +136,19 @@ fn put_bound<W: Write>(writer: &mut W, bound: Bound) -> Result<(), WriteFault> {
 
 // What lets a search come to its end. That a run is too long hangs on no guest.
 fn put_help<W: Write>(writer: &mut W, lines: &[&[u8]], bound: Bound) -> Result<(), WriteFault> {
-    if has_line(lines, "repeat") {
+    if line_with(lines, "repeat").is_some() {
         return put(
             writer,
             b"To see more, give the repeats of a copy smaller counts, and explain that.\n",
         );
     }
-    if bound == Bound::Depth || !has_line(lines, "guest") {
+    if bound == Bound::Depth || line_with(lines, "guest").is_none() {
         return Ok(());
     }
     put(
         writer,
         b"To see more, give a copy fewer guests, or their roles fewer clauses, and explain that.\n",
     )
-}
-
-// Whether a line of the text begins with this word.
-fn has_line(lines: &[&[u8]], word: &str) -> bool {
-    lines.iter().any(|line| is(first_word(line), word))
 }
 
 // What the others may do at the disk at any time, by their roles, where a send is refused.

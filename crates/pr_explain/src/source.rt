@@ -25,14 +25,14 @@ pub(crate) fn first_word(line: &[u8]) -> &[u8] {
     if let [b'#', ..] = rest {
         return b"";
     }
-    let mut end = 0_usize;
-    for byte in rest {
-        if let b' ' | b'\t' = byte {
-            break;
-        }
-        end = end.saturating_add(1);
+    match rest.iter().position(|byte| is_blank(*byte)) {
+        Some(end) => &rest[..end],
+        None => rest,
     }
-    rest.get(..end).unwrap_or(b"")
+}
+
+fn is_blank(byte: u8) -> bool {
+    matches!(byte, b' ' | b'\t')
 }
 
 /// Whether the word is this one.
@@ -42,10 +42,7 @@ pub(crate) fn is(word: &[u8], text: &str) -> bool {
 
 // Whether the line begins with this word, and the name behind it.
 fn begins(line: &[u8], word: &[u8], name: &[u8]) -> bool {
-    match behind(line, word) {
-        Some(rest) => behind(rest, name).is_some(),
-        None => false,
-    }
+    behind(line, word).is_some_and(|rest| behind(rest, name).is_some())
 }
 
 // What stands behind the word, if the line begins with it. They are compared byte by byte, up to the first that differs: most lines
@@ -67,57 +64,30 @@ fn behind<'a>(line: &'a [u8], word: &[u8]) -> Option<&'a [u8]> {
 
 // The line from its first byte that is no blank.
 fn without_blanks(line: &[u8]) -> &[u8] {
-    for (place, byte) in line.iter().enumerate() {
-        if *byte != b' ' && *byte != b'\t' {
-            return &line[place..];
-        }
+    match line.iter().position(|byte| !is_blank(*byte)) {
+        Some(first) => &line[first..],
+        None => &[],
     }
-    &[]
 }
 
 /// Of the lines that begin with this word and this name, the index of the one with this number, from 0.
 pub(crate) fn line_of(lines: &[&[u8]], word: &[u8], name: &[u8], number: usize) -> Option<usize> {
-    let mut left = number;
-    for (index, line) in lines.iter().enumerate() {
-        if begins(line, word, name) {
-            if left == 0 {
-                return Some(index);
-            }
-            left -= 1;
-        }
-    }
-    None
+    let mut found = lines
+        .iter()
+        .enumerate()
+        .filter(|(_, line)| begins(line, word, name));
+    found.nth(number).map(|(index, _)| index)
 }
 
-/// The index of the line that declares the keys.
-pub(crate) fn keys_line(lines: &[&[u8]]) -> Option<usize> {
-    line_with(lines, "keys")
-}
-
-/// The index of the line that declares the reservations of the start.
-pub(crate) fn reservation_line(lines: &[&[u8]]) -> Option<usize> {
-    line_with(lines, "reservation")
-}
-
-// The index of the first line that begins with this word.
-fn line_with(lines: &[&[u8]], word: &str) -> Option<usize> {
-    for (index, line) in lines.iter().enumerate() {
-        if is(first_word(line), word) {
-            return Some(index);
-        }
-    }
-    None
+/// The index of the first line that begins with this word.
+pub(crate) fn line_with(lines: &[&[u8]], word: &str) -> Option<usize> {
+    lines.iter().position(|line| is(first_word(line), word))
 }
 
 /// The index of the first line that has an option of a command with this key. A key that no command has stands only in an option
 /// that its service action drops.
 pub(crate) fn dropped_line(lines: &[&[u8]], key: u64) -> Option<usize> {
-    for (index, line) in lines.iter().enumerate() {
-        if has_option(line, key) {
-            return Some(index);
-        }
-    }
-    None
+    lines.iter().position(|line| has_option(line, key))
 }
 
 /// A line of 256 bytes has no more words.
