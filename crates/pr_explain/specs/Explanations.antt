@@ -14,16 +14,15 @@ use Rattle.pr_explain.specs.declared.plan.Explanation.TheVariants.{Accepted, Ref
 use Rattle.pr_explain.specs.Costs.{cost_of}
 
 abbrev pub scenario_in : Explanation → Parts
-scenario_in (Accepted scenario costs lints ends) = scenario
-scenario_in (Refused scenario refusal tables finding senders forgotten) = scenario
+scenario_in (Accepted it) = it.scenario
+scenario_in (Refused it) = it.scenario
 
 abbrev pub is_refusal : Explanation → Bool
-is_refusal (Accepted scenario costs lints ends) = false
-is_refusal (Refused scenario refusal tables finding senders forgotten) = true
+is_refusal (Accepted it) = false
+is_refusal (Refused it) = true
 
 -- Of one that is accepted: it is safe, these are the costs of its scripts, and these of their ends come together. Of one that is refused: this is the first reason
 -- that the least sound outlines show, the tables are of these outlines, and a run that was found breaks what safety says.
 abbrev pub Holds : Scenario → Explanation → Type 0
-Holds s (Accepted scenario costs lints ends) = IsSafe s × (costs.items ≡ map (λ n. cost_of n.task) s.nexuses) × IfSome ends (AreEnds s)
-Holds s (Refused scenario refusal tables finding senders forgotten) =
-    IsFirstReason s refusal × AreTables s (map table_of tables.items) × IsFound s refusal finding
+Holds s (Accepted it) = IsSafe s × (it.costs.items ≡ map (λ n. cost_of n.task) s.nexuses) × IfSome it.ends (AreEnds s)
+Holds s (Refused it) = IsFirstReason s it.refusal × AreTables s (map table_of it.tables.items) × IsFound s it.refusal it.finding

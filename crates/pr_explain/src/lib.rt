@@ -39,7 +39,7 @@ pub use costing::{Cost, costs};
 pub use covering::covers;
 pub use fact::Fact;
 pub use lint::Lint;
-pub use plan::Explanation;
+pub use plan::{AcceptedPlan, Explanation, RefusedPlan};
 pub use planning::explanation;
 pub use senders::SentBy;
 pub use source::lines_of;

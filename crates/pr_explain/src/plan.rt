@@ -10,31 +10,37 @@ use pr_roles::Scenario;
 use pr_verify::{Refusal, Table};
 use pr_witness::{Ends, Finding};
 
+/// What is said of a scenario that is accepted.
+#[derive(Drop)]
+pub struct AcceptedPlan {
+    pub scenario: Scenario,
+    /// Of each nexus that has a script, what that costs.
+    pub costs: Vec<Option<Cost>>,
+    pub lints: Vec<Lint>,
+    /// Which ends come together, where there are two scripts or more.
+    pub ends: Option<Ends>,
+}
+
+/// What is said of a scenario that is refused.
+#[derive(Drop)]
+pub struct RefusedPlan {
+    pub scenario: Scenario,
+    pub refusal: Refusal,
+    /// What is known at each send of each script.
+    pub tables: Vec<Table>,
+    pub finding: Finding,
+    /// Of each item of the run that was found, by what it was sent.
+    pub senders: Vec<SentBy>,
+    /// Of one that is safe all the same: for what it is refused, which never is so at once when the refused line is sent; nothing
+    /// where that is never sent.
+    pub forgotten: Option<Vec<Fact>>,
+}
+
 /// What is said of a scenario.
 #[derive(Drop)]
 pub enum Explanation {
-    /// It is accepted.
-    Accepted {
-        scenario: Scenario,
-        /// Of each nexus that has a script, what that costs.
-        costs: Vec<Option<Cost>>,
-        lints: Vec<Lint>,
-        /// Which ends come together, where there are two scripts or more.
-        ends: Option<Ends>,
-    },
-    /// It is refused.
-    Refused {
-        scenario: Scenario,
-        refusal: Refusal,
-        /// What is known at each send of each script.
-        tables: Vec<Table>,
-        finding: Finding,
-        /// Of each item of the run that was found, by what it was sent.
-        senders: Vec<SentBy>,
-        /// Of one that is safe all the same: for what it is refused, which never is so at once when the refused line is sent; nothing
-        /// where that is never sent.
-        forgotten: Option<Vec<Fact>>,
-    },
+    Accepted(AcceptedPlan),
+    Refused(RefusedPlan),
 }
 
 impl Explanation {
@@ -45,8 +51,8 @@ impl Explanation {
         ensures { result ≡ is_refusal self.now }
     {
         match self {
-            Explanation::Accepted { .. } => false,
-            Explanation::Refused { .. } => true,
+            Explanation::Accepted(_) => false,
+            Explanation::Refused(_) => true,
         }
     }
 }

@@ -13,11 +13,11 @@ ghost use Rattle.pr_explain.specs.Explanations.{Holds, is_refusal, scenario_in};
 use crate::costing::costs;
 use crate::forgetting::forgotten;
 use crate::linting::lints;
-use crate::plan::Explanation;
-use crate::senders::{SentBy, senders};
+use crate::plan::{AcceptedPlan, Explanation, RefusedPlan};
+use crate::senders::senders;
 use pr_roles::{Scenario, Task};
 use pr_verify::{Refusal, Table, judge};
-use pr_witness::{Bounds, Ends, Finding, USUAL_BOUNDS, ends_together, search};
+use pr_witness::{Bounds, Ends, USUAL_BOUNDS, ends_together, search};
 use std::alloc::{AllocError, Global};
 
 /// How far a search goes for a run that is shown in words: a longer one nobody reads.
@@ -58,12 +58,12 @@ fn accepted(alloc: Global, scenario: Scenario, tables: &[Table]) -> Result<Expla
     let costs = costs(alloc, &scenario.parts().nexuses)?;
     let lints = lints(alloc, &scenario, tables)?;
     let ends = ends_of(alloc, &scenario)?;
-    Ok(Explanation::Accepted {
+    Ok(Explanation::Accepted(AcceptedPlan {
         scenario,
         costs,
         lints,
         ends,
-    })
+    }))
 }
 
 // Which ends come together, where there are two scripts or more.
@@ -95,31 +95,14 @@ fn refused(
     ensures holds { IfOk result (Holds (scenario_of scenario)) }
 {
     let finding = search(alloc, &scenario, &refusal, SHOWN_BOUNDS)?;
-    let senders = senders_of(alloc, &scenario, &finding)?;
+    let senders = senders(alloc, &scenario, &finding)?;
     let forgotten = forgotten(alloc, &scenario, refusal, &tables, &finding, SHOWN_BOUNDS)?;
-    Ok(Explanation::Refused {
+    Ok(Explanation::Refused(RefusedPlan {
         scenario,
         refusal,
         tables,
         finding,
         senders,
         forgotten,
-    })
-}
-
-// By what each item of the run was sent, if one was found.
-fn senders_of(
-    alloc: Global,
-    scenario: &Scenario,
-    finding: &Finding,
-) -> Result<Vec<SentBy>, AllocError> {
-    match finding {
-        Finding::Found { breach, .. } => senders(
-            alloc,
-            scenario,
-            &breach.run.start,
-            &breach.run.history,
-        ),
-        Finding::Safe { .. } | Finding::Nothing { .. } => Ok(Vec::new(alloc)),
-    }
+    }))
 }

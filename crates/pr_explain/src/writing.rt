@@ -17,28 +17,25 @@ pub fn write_explanation<W: Write>(
     let mut writer = Wrapping::new(writer);
     let writer = &mut writer;
     match explanation {
-        Explanation::Accepted {
-            scenario,
-            costs,
-            lints,
-            ends,
-        } => put_accepted(writer, lines, scenario, costs, lints, ends.as_ref()),
-        Explanation::Refused {
-            scenario,
-            refusal,
-            tables,
-            finding,
-            senders,
-            forgotten,
-        } => put_refused(
+        Explanation::Accepted(it) => {
+            put_accepted(
+                writer,
+                lines,
+                &it.scenario,
+                &it.costs,
+                &it.lints,
+                it.ends.as_ref(),
+            )
+        }
+        Explanation::Refused(it) => put_refused(
             writer,
             lines,
-            scenario,
-            *refusal,
-            tables,
-            finding,
-            senders,
-            forgotten.as_deref(),
+            &it.scenario,
+            it.refusal,
+            &it.tables,
+            &it.finding,
+            &it.senders,
+            it.forgotten.as_deref(),
         ),
     }
 }

@@ -17,7 +17,7 @@ use Rattle.fence.specs.Explanations.{EndsTold}
 pub told_plan : (known : Option (List ℕ)) (p : Parts) (e : Explanation) (refused : Bool) → IfSome known (λ text. IsWrittenAs text (scenario_of p))
     → (is_refusal e ≡ false) ↔ HaveOutlines (scenario_of p) → Holds (scenario_of p) e → refused ≡ is_refusal e → EndsTold known (Ok refused)
 told_plan None p e refused read exact holds is = tt
-told_plan (Some text) p (Accepted verified costs lints ends) refused read exact holds is = (
+told_plan (Some text) p (Accepted it) refused read exact holds is = (
   verdict_text (names_in (scenario_of p)) verdict.Accepted,
   record {
     scenario = scenario_of p;
@@ -28,12 +28,12 @@ told_plan (Some text) p (Accepted verified costs lints ends) refused read exact 
     refused_is = is;
   },
 )
-told_plan (Some text) p (Refused scenario refusal tables finding senders forgotten) refused read exact holds is = (
-  verdict_text (names_in (scenario_of p)) (verdict.Refused refusal),
+told_plan (Some text) p (Refused it) refused read exact holds is = (
+  verdict_text (names_in (scenario_of p)) (verdict.Refused it.refusal),
   record {
     scenario = scenario_of p;
     read = read;
-    answer = verdict.Refused refusal;
+    answer = verdict.Refused it.refusal;
     holds = holds.0;
     lines_are = refl;
     refused_is = is;
