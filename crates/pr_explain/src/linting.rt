@@ -19,7 +19,9 @@ pub(crate) fn lints(
 ) -> Result<Vec<Lint>, AllocError> {
     let mut lints = Vec::new(alloc);
     for table in tables {
-        add_of_sends(&mut lints, table)?;
+        for ((line, _), row) in table.outline.views.iter().zip(&table.rows) {
+            add_of_send(&mut lints, *line, row)?;
+        }
         add_of_role(&mut lints, &scenario.parts().nexuses, table)?;
     }
     for key in &scenario.parts().keys {
@@ -31,38 +33,23 @@ pub(crate) fn lints(
     Ok(lints)
 }
 
-fn add_of_sends(lints: &mut Vec<Lint>, table: &Table) -> Result<(), AllocError> {
-    let host = table.outline.host;
-    for (place, row) in table.rows.iter().enumerate() {
-        if let Some((line, _)) = table.outline.views.get(place) {
-            add_of_send(lints, host, *line, row)?;
-        }
-    }
-    Ok(())
-}
-
 // A send without arms says itself that it is never sent.
-fn add_of_send(lints: &mut Vec<Lint>, host: u8, line: u32, row: &Row) -> Result<(), AllocError> {
+fn add_of_send(lints: &mut Vec<Lint>, line: u32, row: &Row) -> Result<(), AllocError> {
     if row.tests.is_empty() {
         return Ok(());
     }
     if row.arms.is_empty() && row.unarmed.is_empty() {
-        lints.push(Lint::NeverSent { host, line })?;
+        lints.push(Lint::NeverSent { line })?;
         return Ok(());
     }
     if is_keyless(&row.command) {
-        lints.push(Lint::Keyless { host, line })?;
+        lints.push(Lint::Keyless { line })?;
     }
     for (arm, test) in row.tests.iter().enumerate() {
         if let Some(above) = first_covering(&row.tests, arm, *test) {
-            lints.push(Lint::Covered {
-                host,
-                line,
-                arm,
-                above,
-            })?;
+            lints.push(Lint::Covered { line, arm, above })?;
         } else if !row.arms.contains(&arm) {
-            lints.push(Lint::NeverTaken { host, line, arm })?;
+            lints.push(Lint::NeverTaken { line, arm })?;
         }
     }
     Ok(())
