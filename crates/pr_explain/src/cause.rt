@@ -1,90 +1,81 @@
 //! Why a command that is out of its role ended GOOD in a run, in words.
 
-use crate::advice::put_deed;
 use crate::losses::{Loss, command_at, loss_of, told_behind, unit_before_last};
+use crate::refused_send::RefusedSend;
 use crate::senders::SentBy;
+use crate::sheet::{Sheet, command_number};
 use crate::stepping::is_met;
 use pr_cdb::{Command, Kind};
-use pr_output::{Token, WriteFault, put};
-use pr_registry::Held;
-use pr_roles::{Clause, Condition, Item, Nexus, names};
+use pr_output::WriteFault;
+use pr_registry::{Held, kind_of};
+use pr_roles::{Condition, names};
 use pr_unit::Unit;
 use pr_witness::Breach;
-use pr_words::saying::{Part, name, number, say};
-use pr_words::{name_of, put_reply};
+use pr_words::put_reply;
+use pr_words::saying::{Part, name, number};
 use std::io::Write;
 
 /// What a clause may ask for.
-pub(crate) const CONDITIONS: [Condition; 3] = [
+const CONDITIONS: [Condition; 3] = [
     Condition::Registered,
     Condition::Holder,
     Condition::Reserved,
 ];
 
-/// Whether one of the clauses that name the command asks for this.
-pub(crate) fn asks_for(clauses: &[Clause], command: Command, condition: Condition) -> bool {
-    clauses.iter().any(|clause| names(clause.action, command)
+// Whether one of the clauses that name the command asks for this.
+fn asks_for(send: RefusedSend<'_>, condition: Condition) -> bool {
+    send.nexus.role.clauses.iter().any(|clause| names(clause.action, send.row.command)
         && clause.condition == Some(condition))
 }
 
+/// What a clause that names the command asks for.
+pub(crate) fn asked_of(send: RefusedSend<'_>) -> Option<Condition> {
+    CONDITIONS
+        .into_iter()
+        .find(|condition| asks_for(send, *condition))
+}
+
 /// The command of the run that took away what the role asks for, if one did: the registration first, if that is gone.
-pub(crate) fn loss_in(
-    breach: &Breach,
-    clauses: &[Clause],
-    host: u8,
-    command: Command,
-) -> Option<Loss> {
-    for condition in CONDITIONS {
-        if asks_for(clauses, command, condition)
-            && let Some(loss) = loss_of(breach, host, condition)
-        {
-            return Some(loss);
-        }
-    }
-    None
+pub(crate) fn loss_in(breach: &Breach, send: RefusedSend<'_>) -> Option<Loss> {
+    CONDITIONS
+        .into_iter()
+        .filter(|condition| asks_for(send, *condition))
+        .find_map(|condition| loss_of(breach, send.host, condition))
 }
 
 /// Writes which commands of the run took away what the role of the last sender asks for, and what let its command end GOOD then.
 pub(crate) fn put_cause<W: Write>(
-    writer: &mut W,
-    nexuses: &[Nexus],
+    sheet: &mut Sheet<'_, W>,
     breach: &Breach,
-    host: u8,
-    command: Command,
+    send: RefusedSend<'_>,
 ) -> Result<(), WriteFault> {
-    let Some(nexus) = nexuses.get(usize::from(host)) else {
-        return Ok(());
-    };
     let mut told = None;
     for condition in CONDITIONS {
-        if asks_for(&nexus.role.clauses, command, condition) {
-            told = put_lost(writer, nexuses, breach, host, command, condition, told)?;
+        if asks_for(send, condition) {
+            told = put_lost(sheet, breach, send, condition, told)?;
         }
     }
-    let unit = unit_before_last(breach);
-    put_opening(writer, nexuses, breach, host, command, &unit, told)
+    put_opening(sheet, breach, send, told)
 }
 
 // Which command took this away, if that is not told already. Answers the last that is told.
 fn put_lost<W: Write>(
-    writer: &mut W,
-    nexuses: &[Nexus],
+    sheet: &mut Sheet<'_, W>,
     breach: &Breach,
-    host: u8,
-    command: Command,
+    send: RefusedSend<'_>,
     condition: Condition,
     told: Option<usize>,
 ) -> Result<Option<usize>, WriteFault> {
-    match loss_of(breach, host, condition) {
+    match loss_of(breach, send.host, condition) {
         Some(loss) if told == Some(loss.index) => Ok(told),
         Some(loss) => {
-            put_loss(writer, nexuses, &breach.run.history, host, condition, loss)?;
+            put_loss(sheet, breach, send.host, condition, loss)?;
             Ok(Some(loss.index))
         }
         // (it is said below that nothing is reserved)
-        None if condition == Condition::Reserved && who_may(command).is_some() => Ok(told),
+        None if condition == Condition::Reserved && who_may(send.row.command).is_some() => Ok(told),
         None => {
-            put_never(writer, name_of(nexuses, host), condition)?;
+            put_never(sheet, send.host, condition)?;
             Ok(told)
         }
     }
@@ -92,51 +83,73 @@ fn put_lost<W: Write>(
 
 // That a condition never held in the run.
 fn put_never<W: Write>(
-    writer: &mut W,
-    host: &[u8],
+    sheet: &mut Sheet<'_, W>,
+    host: u8,
     condition: Condition,
 ) -> Result<(), WriteFault> {
-    match condition {
-        Condition::Registered => put(writer, host).and_then(|()| put(
-            writer,
-            b" is registered at no time of this run.\n",
-        )),
-        Condition::Holder => put(writer, host).and_then(|()| put(
-            writer,
-            b" holds the reservation at no time of this run.\n",
-        )),
-        Condition::Reserved => put(writer, b"Nothing is reserved at any time of this run.\n"),
-    }
+    let said: &[u8] = match condition {
+        Condition::Registered => b" is registered at no time of this run.\n",
+        Condition::Holder => b" holds the reservation at no time of this run.\n",
+        Condition::Reserved => {
+            return sheet.put(b"Nothing is reserved at any time of this run.\n");
+        }
+    };
+    sheet.put(sheet.name_of(host))?;
+    sheet.put(said)
 }
 
 // Which command took something away, and by whom.
 fn put_loss<W: Write>(
-    writer: &mut W,
-    nexuses: &[Nexus],
-    history: &[Item],
+    sheet: &mut Sheet<'_, W>,
+    breach: &Breach,
     host: u8,
     condition: Condition,
     loss: Loss,
 ) -> Result<(), WriteFault> {
-    let Some((sender, command)) = command_at(history, loss.index) else {
+    let Some((sender, command)) = command_at(&breach.run.history, loss.index) else {
         return Ok(());
     };
-    say(
-        writer,
-        &[
-            Part::Text(b"Command"),
-            number((loss.index as u64).saturating_add(1)),
-            Part::Text(b", by"),
-            name(name_of(nexuses, sender)),
-            Part::Text(if sender == host { b" itself, " } else { b", " }),
-        ],
-    )?;
-    put_deed(writer, name_of(nexuses, host), condition, loss, command)?;
-    put(writer, b".\n")
+    sheet.say(&[
+        Part::Text(b"Command"),
+        command_number(loss.index),
+        Part::Text(b", by"),
+        name(sheet.name_of(sender)),
+        Part::Text(if sender == host { b" itself, " } else { b", " }),
+    ])?;
+    put_deed(sheet, host, condition, loss, command)?;
+    sheet.put(b".\n")
 }
 
-/// What a command did that ended its sender's registration.
-pub(crate) fn unregistering(condition: Condition, loss: Loss) -> &'static [u8] {
+// What the command did to the nexus, which it took something away from.
+fn put_deed<W: Write>(
+    sheet: &mut Sheet<'_, W>,
+    host: u8,
+    condition: Condition,
+    loss: Loss,
+    command: Command,
+) -> Result<(), WriteFault> {
+    match command {
+        Command::Register { .. } | Command::RegisterIgnore { .. } => {
+            sheet.put(unregistering(condition, loss))
+        }
+        Command::Release { .. } => sheet.put(b"released the reservation"),
+        Command::Clear { .. } => sheet.put(clearing(loss)),
+        Command::Preempt { .. } | Command::PreemptAbort { .. } => {
+            put_preempting(sheet, host, condition, loss)
+        }
+        Command::TestUnitReady
+        | Command::RequestSense
+        | Command::Read { .. }
+        | Command::Write { .. }
+        | Command::ReadKeys { .. }
+        | Command::ReadReservation { .. }
+        | Command::ReportCapabilities { .. }
+        | Command::Reserve { .. } => sheet.put(b"changed that"),
+    }
+}
+
+// What a command did that ended its sender's registration.
+fn unregistering(condition: Condition, loss: Loss) -> &'static [u8] {
     match (condition, loss.before, loss.after) {
         (Condition::Holder | Condition::Reserved, Some(Held::One(..)), None) => {
             b"released the reservation (its holder unregistered)"
@@ -150,111 +163,88 @@ pub(crate) fn unregistering(condition: Condition, loss: Loss) -> &'static [u8] {
     }
 }
 
-/// What a PREEMPT did to the nexus.
-pub(crate) fn preempting(host: &[u8], condition: Condition, loss: Loss) -> [Part<'_>; 3] {
+// What a CLEAR did.
+fn clearing(loss: Loss) -> &'static [u8] {
+    if loss.before.is_some() {
+        b"cleared the reservation and all registrations"
+    } else {
+        b"cleared all registrations"
+    }
+}
+
+// What a PREEMPT did to the nexus.
+fn put_preempting<W: Write>(
+    sheet: &mut Sheet<'_, W>,
+    host: u8,
+    condition: Condition,
+    loss: Loss,
+) -> Result<(), WriteFault> {
+    let host = name(sheet.name_of(host));
     match condition {
-        Condition::Holder if loss.before != loss.after && loss.after.is_some() => [
-            Part::Text(b"took the reservation from"),
-            name(host),
-            Part::Text(b""),
-        ],
-        Condition::Reserved => [
-            Part::Text(b"ended the reservation"),
-            Part::Text(b""),
-            Part::Text(b""),
-        ],
-        Condition::Registered | Condition::Holder => [
+        Condition::Holder if loss.before != loss.after && loss.after.is_some() => {
+            sheet.say(&[Part::Text(b"took the reservation from"), host])
+        }
+        Condition::Reserved => sheet.put(b"ended the reservation"),
+        Condition::Registered | Condition::Holder => sheet.say(&[
             Part::Text(b"took the registration of"),
-            name(host),
+            host,
             Part::Text(b" away"),
-        ],
+        ]),
     }
 }
 
 // What lets the command end GOOD, where that hangs on the reservation.
 fn put_opening<W: Write>(
-    writer: &mut W,
-    nexuses: &[Nexus],
+    sheet: &mut Sheet<'_, W>,
     breach: &Breach,
-    host: u8,
-    command: Command,
-    unit: &Unit,
+    send: RefusedSend<'_>,
     told: Option<usize>,
 ) -> Result<(), WriteFault> {
+    let command = send.row.command;
     let Some(may) = who_may(command) else {
         return Ok(());
     };
+    let unit = unit_before_last(breach);
     let Some(held) = unit.registry().held() else {
-        return put_unreserved(writer, nexuses, breach, host, may, told);
+        return put_unreserved(sheet, breach, send.host, may, told);
     };
-    let Some(whom) = whom_it_lets(held, command, unit, host) else {
+    let Some(whom) = whom_it_lets(held, command, &unit, send.host) else {
         return Ok(());
     };
-    put_held_at_first(writer, nexuses, held)?;
-    put(writer, whom)
+    sheet.say(&[Part::Text(b"Type"), number(u64::from(kind_of(held).code()))])?;
+    if let Held::One(_, holder) = held {
+        sheet.say(&[Part::Text(b" of"), name(sheet.name_of(holder))])?;
+    }
+    sheet.put(whom)
 }
 
 // Who may send the command with success where nothing is reserved, if that hangs on the reservation.
 fn who_may(command: Command) -> Option<&'static [u8]> {
-    if is_read(command) {
-        return Some(b"anybody may read");
-    }
-    if is_write(command) {
-        return Some(b"anybody may write");
-    }
-    if matches!(command, Command::Reserve { .. }) {
-        return Some(b"each registrant may reserve");
-    }
-    None
-}
-
-fn is_read(command: Command) -> bool {
-    matches!(command, Command::Read { .. })
-}
-
-fn is_write(command: Command) -> bool {
-    matches!(command, Command::Write { .. })
-}
-
-// The reservation, at the beginning of a sentence.
-fn put_held_at_first<W: Write>(
-    writer: &mut W,
-    nexuses: &[Nexus],
-    held: Held,
-) -> Result<(), WriteFault> {
-    match held {
-        Held::One(kind, holder) => say(
-            writer,
-            &[
-                Part::Text(b"Type"),
-                number(u64::from(kind.code())),
-                Part::Text(b" of"),
-                name(name_of(nexuses, holder)),
-            ],
-        ),
-        Held::All(kind) => say(
-            writer,
-            &[Part::Text(b"Type"), number(u64::from(kind.code()))],
-        ),
+    match command {
+        Command::Read { .. } => Some(b"anybody may read"),
+        Command::Write { .. } => Some(b"anybody may write"),
+        Command::Reserve { .. } => Some(b"each registrant may reserve"),
+        _ => None,
     }
 }
 
 // Whom the reservation lets read or write, of whom the nexus is one.
 fn whom_it_lets(held: Held, command: Command, unit: &Unit, host: u8) -> Option<&'static [u8]> {
     let is_holder = is_met(Condition::Holder, unit, host);
-    match (is_read(command), is_write(command)) {
-        (true, _) if is_holder => Some(b" lets its holder read.\n"),
-        (true, _) if excludes_writes_alone(held) => Some(b" lets anybody read.\n"),
-        (true, _) => Some(b" lets each registrant read.\n"),
-        (false, true) if is_holder => Some(b" lets its holder write.\n"),
-        (false, true) => Some(b" lets each registrant write.\n"),
-        (false, false) => None,
+    match command {
+        Command::Read { .. } if is_holder => Some(b" lets its holder read.\n"),
+        Command::Read { .. } if excludes_writes_alone(kind_of(held)) => {
+            Some(b" lets anybody read.\n")
+        }
+        Command::Read { .. } => Some(b" lets each registrant read.\n"),
+        Command::Write { .. } if is_holder => Some(b" lets its holder write.\n"),
+        Command::Write { .. } => Some(b" lets each registrant write.\n"),
+        _ => None,
     }
 }
 
-// Whether anybody may read under the reservation.
-fn excludes_writes_alone(held: Held) -> bool {
-    let (Held::One(kind, _) | Held::All(kind)) = held;
+// Whether anybody may read under a reservation of this type.
+fn excludes_writes_alone(kind: Kind) -> bool {
     match kind {
         Kind::WriteExclusive
         | Kind::WriteExclusiveRegistrantsOnly
@@ -267,47 +257,35 @@ fn excludes_writes_alone(held: Held) -> bool {
 
 // That nothing is reserved, and since when.
 fn put_unreserved<W: Write>(
-    writer: &mut W,
-    nexuses: &[Nexus],
+    sheet: &mut Sheet<'_, W>,
     breach: &Breach,
     host: u8,
     may: &[u8],
     told: Option<usize>,
 ) -> Result<(), WriteFault> {
-    let Some(loss) = loss_of(breach, host, Condition::Reserved) else {
-        let parts = [
+    let condition = Condition::Reserved;
+    let Some(loss) = loss_of(breach, host, condition) else {
+        return sheet.say(&[
             Part::Text(b"Nothing is reserved then, so "),
             Part::Text(may),
             Part::Text(b".\n"),
-        ];
-        return say(writer, &parts);
+        ]);
     };
     if told != Some(loss.index) {
-        put_loss(
-            writer,
-            nexuses,
-            &breach.run.history,
-            host,
-            Condition::Reserved,
-            loss,
-        )?;
+        put_loss(sheet, breach, host, condition, loss)?;
     }
-    say(
-        writer,
-        &[
-            Part::Text(b"From command"),
-            number((loss.index as u64).saturating_add(1)),
-            Part::Text(b" on nothing is reserved, and "),
-            Part::Text(may),
-            Part::Text(b".\n"),
-        ],
-    )
+    sheet.say(&[
+        Part::Text(b"From command"),
+        command_number(loss.index),
+        Part::Text(b" on nothing is reserved, and "),
+        Part::Text(may),
+        Part::Text(b".\n"),
+    ])
 }
 
 /// Writes by which command, and with which reply, the nexus was told what another did, if it was. Answers the line of that command.
 pub(crate) fn put_told<W: Write>(
-    writer: &mut W,
-    nexuses: &[Nexus],
+    sheet: &mut Sheet<'_, W>,
     breach: &Breach,
     senders: &[SentBy],
     host: u8,
@@ -319,17 +297,14 @@ pub(crate) fn put_told<W: Write>(
     let Some(SentBy::Line(line)) = senders.get(index) else {
         return Ok(None);
     };
-    say(
-        writer,
-        &[
-            Part::Text(b"The reply to command"),
-            number((index as u64).saturating_add(1)),
-            Part::Text(b" told"),
-            name(name_of(nexuses, host)),
-            Part::Text(b" so: "),
-        ],
-    )?;
-    put_reply(writer, &entry.wire, &entry.reply)?;
-    put(writer, b".\n")?;
+    sheet.say(&[
+        Part::Text(b"The reply to command"),
+        command_number(index),
+        Part::Text(b" told"),
+        name(sheet.name_of(host)),
+        Part::Text(b" so: "),
+    ])?;
+    put_reply(&mut sheet.writer, &entry.wire, &entry.reply)?;
+    sheet.put(b".\n")?;
     Ok(Some(*line))
 }

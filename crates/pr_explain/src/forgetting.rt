@@ -2,7 +2,7 @@
 
 use crate::combination::Combination;
 use crate::fact::Fact;
-use crate::refused_send::RefusedSend;
+use crate::refused_send::{RefusedSend, is_uncounted};
 use crate::showing::first_refused;
 use pr_explore::{Bounds, Explorer, Goal};
 use pr_roles::Scenario;
@@ -27,6 +27,10 @@ pub(crate) fn forgotten(
     let Some(refused) = RefusedSend::of(scenario, refusal, tables) else {
         return Ok(None);
     };
+    // (whether the unit is busy hangs on nothing that may be so)
+    if refused.unarmed.is_some_and(is_uncounted) {
+        return Ok(None);
+    }
     let Some(shown) = first_refused(alloc, &refused)? else {
         return Ok(None);
     };
@@ -35,7 +39,11 @@ pub(crate) fn forgotten(
     if explorer.bound().is_some() {
         return Ok(None);
     }
-    let seen = seen_together(alloc, scenario, &explorer, refused.send, &shown.facts)?;
+    let send = Goal {
+        host: refused.host,
+        line: refused.line,
+    };
+    let seen = seen_together(alloc, scenario, &explorer, send, &shown.facts)?;
     match Combination::least_beyond(&seen, shown.facts.len(), shown.chance) {
         Some(never) => Ok(Some(never.chosen(alloc, &shown.facts)?)),
         None => Ok(None),

@@ -28,6 +28,7 @@ mod refused_send;
 mod refusing;
 mod running;
 mod senders;
+mod sheet;
 mod showing;
 mod source;
 mod stepping;

@@ -2,122 +2,107 @@
 
 ghost use Rattle.std.specs.Prelude.{◌<◌};
 
+use crate::refused_send::RefusedSend;
+use crate::sheet::{Sheet, key};
 use pr_attention::Attention;
-use pr_output::{Token, WriteFault, put, put_spaced};
-use pr_roles::Nexus;
+use pr_output::WriteFault;
 use pr_views::{ATTENTION_SETS, View, count_of_reservations, is_among, reservation_at};
-use pr_words::saying::{Part, name, say};
+use pr_words::saying::{Part, name};
 use pr_words::{put_held, put_sense};
 use std::io::Write;
 
-/// Writes what is possible in the view of this name: the registrations of each nexus, the reservations, and what waits for the
-/// owner of the view. Each list stands by itself.
+/// Writes what is possible when it is sent: the registrations of each nexus, the reservations, and what waits for the host. Each list
+/// stands by itself.
 pub(crate) fn put_possible<W: Write>(
-    writer: &mut W,
-    nexuses: &[Nexus],
-    owner: &[u8],
-    view: &View,
+    sheet: &mut Sheet<'_, W>,
+    send: RefusedSend<'_>,
 ) -> Result<(), WriteFault> {
-    for (number, nexus) in nexuses.iter().enumerate() {
-        if number < usize::from(view.hosts) {
-            put_registrations(writer, nexus.name.as_str().as_bytes(), view, number as u8)?;
-        }
+    for nexus in 0..send.view.hosts {
+        put_registrations(sheet, send.view, nexus)?;
     }
-    put_reservations(writer, nexuses, view)?;
-    put_waiting(writer, owner, view)
+    put_reservations(sheet, send.view)?;
+    put_waiting(sheet, send.nexus.name.as_str().as_bytes(), send.view)
 }
 
-// With what the nexus of this name and number may be registered: 0 stands for nothing, and each key for its place from 1 on.
+// With what the nexus may be registered: 0 stands for nothing, and each key for its place from 1 on.
 fn put_registrations<W: Write>(
-    writer: &mut W,
-    name_of_nexus: &[u8],
+    sheet: &mut Sheet<'_, W>,
     view: &View,
     nexus: u8,
 ) -> Result<(), WriteFault>
     requires { nexus < view.now.hosts }
 {
-    say(writer, &[Part::Text(b" "), name(name_of_nexus)])?;
-    let mut is_first = true;
+    sheet.say(&[Part::Text(b" "), name(sheet.name_of(nexus))])?;
+    let mut before = b"".as_slice();
     if view.has_registration(nexus, 0) {
-        put(writer, b" is not registered")?;
-        is_first = false;
+        sheet.put(b" is not registered")?;
+        before = b", or";
     }
-    let mut number: u8 = 0;
-    for key in view.keys.iter() {
-        number = number.saturating_add(1);
+    for (number, known) in (1..u8::MAX).zip(view.keys.iter()) {
         if view.has_registration(nexus, number) {
-            put_or(writer, is_first)?;
-            put_spaced(writer, &[Token::Text(b"has"), Token::Key(*key)])?;
-            is_first = false;
+            sheet.say(&[Part::Text(before), Part::Text(b" has"), key(*known)])?;
+            before = b", or";
         }
     }
-    put(writer, b"\n")
+    sheet.put(b"\n")
 }
 
-fn put_reservations<W: Write>(
-    writer: &mut W,
-    nexuses: &[Nexus],
-    view: &View,
-) -> Result<(), WriteFault> {
+fn put_reservations<W: Write>(sheet: &mut Sheet<'_, W>, view: &View) -> Result<(), WriteFault> {
     let hosts = view.hosts;
-    put(writer, b" ")?;
-    let mut is_first = true;
+    let mut before = b"  ".as_slice();
     for number in 0..count_of_reservations(hosts) {
         if view.has_reservation(number) {
-            put_or(writer, is_first)?;
-            put(writer, b" ")?;
-            put_held(writer, nexuses, reservation_at(hosts, number))?;
-            is_first = false;
+            sheet.put(before)?;
+            put_held(
+                &mut sheet.writer,
+                sheet.nexuses,
+                reservation_at(hosts, number),
+            )?;
+            before = b", or ";
         }
     }
-    put(writer, b"\n")
+    sheet.put(b"\n")
 }
 
 // What may be pending for the host of this name, by the number of each set of attentions.
-fn put_waiting<W: Write>(writer: &mut W, owner: &[u8], view: &View) -> Result<(), WriteFault> {
-    put(writer, b" ")?;
+fn put_waiting<W: Write>(
+    sheet: &mut Sheet<'_, W>,
+    owner: &[u8],
+    view: &View,
+) -> Result<(), WriteFault> {
     let mut is_first = true;
     for number in 0..ATTENTION_SETS {
         if view.has_pending(number) {
-            put_or(writer, is_first)?;
-            put_attentions(writer, number)?;
+            sheet.put(if is_first { b" " } else { b", or" })?;
+            put_attentions(sheet, number)?;
             if is_first {
-                say(writer, &[Part::Text(b" pending for"), name(owner)])?;
+                sheet.say(&[Part::Text(b" pending for"), name(owner)])?;
             }
             is_first = false;
         }
     }
-    put(writer, b"\n")
+    sheet.put(b"\n")
 }
 
 /// Writes which attentions are, or that nothing is, to be followed by for whom they are pending.
-pub(crate) fn put_attentions<W: Write>(writer: &mut W, attentions: u8) -> Result<(), WriteFault> {
+pub(crate) fn put_attentions<W: Write>(
+    sheet: &mut Sheet<'_, W>,
+    attentions: u8,
+) -> Result<(), WriteFault> {
     if attentions == 0 {
-        return put(writer, b" nothing is");
+        return sheet.put(b" nothing is");
     }
-    let mut is_first = true;
+    let mut before = b" ".as_slice();
     for attention in Attention::ALL {
         if is_among(attention, attentions) {
-            put(writer, if is_first { b" " } else { b" and " })?;
-            put_sense(writer, attention.sense())?;
-            is_first = false;
+            sheet.put(before)?;
+            put_sense(&mut sheet.writer, attention.sense())?;
+            before = b" and ";
         }
     }
-    put(
-        writer,
-        if attentions.count_ones() == 1 {
-            b" is"
-        } else {
-            b" are"
-        },
-    )
-}
-
-// What stands before each of several that may be, but the first.
-fn put_or<W: Write>(writer: &mut W, is_first: bool) -> Result<(), WriteFault> {
-    if is_first {
-        Ok(())
+    sheet.put(if attentions.count_ones() == 1 {
+        b" is".as_slice()
     } else {
-        put(writer, b", or")
-    }
+        b" are"
+    })
 }

@@ -1,15 +1,12 @@
-//! What a refused send comes to where less may be so.
+//! A send that is refused, and what it comes to where less may be so.
 
 ghost use Rattle.std.specs.Prelude.{◌≡◌, true, IsTrue};
 ghost use Rattle.std.specs.List.{All};
 ghost use Rattle.pr_script.specs.Grammar.{has_sense_digit, test_fits};
 
-use crate::refusing::{row_at, view_at};
 use pr_cdb::Command;
-use pr_domain::outcomes;
-use pr_explore::Goal;
-use pr_domain::permitted;
-use pr_roles::{Refusals, Role, Scenario};
+use pr_domain::{outcomes, permitted};
+use pr_roles::{Nexus, Refusals, Scenario};
 use pr_script::limits::MOST_ARMS;
 use pr_script::{Class, Landing, Test, is_test_declared, is_written, stands_under};
 use pr_verify::{Refusal, Row, Table};
@@ -19,12 +16,15 @@ use std::alloc::{AllocError, Global};
 /// A send that is refused for what may be so when it is sent.
 #[derive(Clone, Copy)]
 pub(crate) struct RefusedSend<'a> {
-    pub send: Goal,
+    pub host: u8,
+    pub line: u32,
+    /// The host that sends it.
+    pub nexus: &'a Nexus,
+    /// What the host can know then, and what its command comes to.
     pub view: &'a View,
-    role: &'a Role,
-    row: &'a Row,
+    pub row: &'a Row,
     /// The class of the reply without an arm; none where the role doesn't permit the command.
-    unarmed: Option<Class>,
+    pub unarmed: Option<Class>,
 }
 
 // Nobody is refused, since that hangs on no state of the unit.
@@ -34,23 +34,26 @@ const NEVER_REFUSED: Refusals = Refusals {
 };
 
 impl RefusedSend<'_> {
-    /// The send that the refusal tells, if it is one for what may be so when it is sent. (Whether the unit is busy is no such thing.)
+    /// The send that the refusal tells, if it is one for what may be so when it is sent.
     pub(crate) fn of<'a>(
         scenario: &'a Scenario,
         refusal: Refusal,
         tables: &'a [Table],
     ) -> Option<RefusedSend<'a>> {
         let (host, line, unarmed) = match refusal {
-            Refusal::NoArm { class, .. } if is_uncounted(class) => return None,
             Refusal::NoArm { host, line, class } => (host, line, Some(class)),
             Refusal::OutOfRole { host, line } => (host, line, None),
             Refusal::OverBudget { .. } | Refusal::Memory | Refusal::NotSound { .. } => return None,
         };
+        let table = table_of(tables, host)?;
+        let place = table.outline.views.iter().position(|(at, _)| *at == line)?;
+        let (_, view) = table.outline.views.get(place)?;
         Some(RefusedSend {
-            send: Goal { host, line },
-            view: view_at(tables, host, line)?,
-            role: &scenario.parts().nexuses.get(usize::from(host))?.role,
-            row: row_at(tables, host, line)?,
+            host,
+            line,
+            nexus: scenario.parts().nexuses.get(usize::from(host))?,
+            view,
+            row: table.rows.get(place)?,
             unarmed,
         })
     }
@@ -72,14 +75,14 @@ impl RefusedSend<'_> {
 
     // Whether it is refused for the same in this view.
     fn is_refused_in(&self, alloc: Global, view: &View) -> Result<bool, AllocError> {
-        let host = self.send.host;
+        let host = self.host;
         let command = self.row.command;
         let tests = &self.row.tests;
         if host >= view.hosts || !is_written(&view.keys, command) {
             return Ok(false);
         }
         let Some(class) = self.unarmed else {
-            return Ok(!permitted(view, self.role, host, &command));
+            return Ok(!permitted(view, &self.nexus.role, host, &command));
         };
         if tests.len() > MOST_ARMS || !fit(&view.keys, command, tests) {
             return Ok(false);
@@ -88,6 +91,11 @@ impl RefusedSend<'_> {
         let landing = Landing::NoArm(class);
         Ok(outcomes.iter().any(|outcome| outcome.0 == landing))
     }
+}
+
+/// The table of the nexus with this number, which a host has.
+pub(crate) fn table_of(tables: &[Table], host: u8) -> Option<&Table> {
+    tables.iter().find(|table| table.outline.host == host)
 }
 
 /// Whether it is BUSY or TASK SET FULL, of which `fence check` doesn't count how often they came.

@@ -2,154 +2,123 @@
 
 use crate::fact::Fact;
 use crate::possible::put_attentions;
-use crate::refused_send::is_uncounted;
-use pr_output::{Token, WriteFault, put, put_spaced};
+use crate::refused_send::{RefusedSend, is_uncounted};
+use crate::sheet::{Sheet, key};
+use pr_output::WriteFault;
 use pr_roles::{Nexus, Task};
 use pr_script::Class;
-use pr_verify::Refusal;
-use pr_words::saying::{Part, name, number, say};
-use pr_words::{name_of, put_class, put_held};
+use pr_words::saying::{Part, name, number};
+use pr_words::{put_class, put_held};
 use std::io::Write;
 
 /// Writes why `fence check` can't see that it is safe.
 pub(crate) fn put_unseen<W: Write>(
-    writer: &mut W,
-    nexuses: &[Nexus],
-    refusal: Refusal,
+    sheet: &mut Sheet<'_, W>,
+    send: Option<RefusedSend<'_>>,
     forgotten: Option<&[Fact]>,
 ) -> Result<(), WriteFault> {
-    put(writer, b" `fence check` can't see it: ")?;
-    match refusal {
-        Refusal::NoArm { class, .. } if is_uncounted(class) => put_uncounted(writer, class)?,
-        Refusal::NoArm { host, line, .. } | Refusal::OutOfRole { host, line } => {
-            put_forgotten(writer, nexuses, host, line, forgotten)?;
+    sheet.put(b" `fence check` can't see it: ")?;
+    match send {
+        Some(
+            RefusedSend {
+                unarmed: Some(class),
+                ..
+            },
+        ) if is_uncounted(class) => {
+            put_uncounted(sheet, class)?;
         }
-        Refusal::OverBudget { .. } | Refusal::Memory | Refusal::NotSound { .. } => put(
-            writer,
+        Some(send) => put_forgotten(sheet, send, forgotten)?,
+        None => sheet.put(
             b"it adds up what the sends cost, and knows neither which arms are taken nor how often a repeat runs.",
         )?,
     }
-    put(
-        writer,
-        b" See 'Safe, and refused all the same' in docs/VERDICTS.md.\n",
-    )
+    sheet.put(b" See 'Safe, and refused all the same' in docs/VERDICTS.md.\n")
 }
 
 // That it doesn't count how often the disk was busy.
-fn put_uncounted<W: Write>(writer: &mut W, class: Class) -> Result<(), WriteFault> {
-    put(
-        writer,
+fn put_uncounted<W: Write>(sheet: &mut Sheet<'_, W>, class: Class) -> Result<(), WriteFault> {
+    sheet.put(
         b"it doesn't count how often the disk was busy, so it must assume that this command, too, may end in ",
     )?;
-    put_class(writer, class)?;
-    put(writer, b".")
+    put_class(&mut sheet.writer, class)?;
+    sheet.put(b".")
 }
 
 // What never is so at this line, if that is known.
 fn put_forgotten<W: Write>(
-    writer: &mut W,
-    nexuses: &[Nexus],
-    host: u8,
-    line: u32,
+    sheet: &mut Sheet<'_, W>,
+    send: RefusedSend<'_>,
     forgotten: Option<&[Fact]>,
 ) -> Result<(), WriteFault> {
     match forgotten {
-        None => put_apart(writer, line),
-        Some([]) => put_no_send(writer, nexuses, host, line),
-        Some([fact]) => put_never(writer, nexuses, host, line, *fact),
-        Some(facts) => put_never_together(writer, nexuses, host, line, facts),
+        None => put_apart(sheet, send.line),
+        Some([]) => put_no_send(sheet, send),
+        Some([fact]) => put_never(sheet, send, *fact),
+        Some(facts) => put_never_together(sheet, send, facts),
     }
 }
 
 // That a view has its lists apart.
-fn put_apart<W: Write>(writer: &mut W, line: u32) -> Result<(), WriteFault> {
-    say(
-        writer,
-        &[
-            Part::Text(b"it knows what may be so at line"),
-            number(u64::from(line)),
-            Part::Text(b", each by itself, but not what comes together."),
-        ],
-    )
+fn put_apart<W: Write>(sheet: &mut Sheet<'_, W>, line: u32) -> Result<(), WriteFault> {
+    sheet.say(&[
+        Part::Text(b"it knows what may be so at line"),
+        number(u64::from(line)),
+        Part::Text(b", each by itself, but not what comes together."),
+    ])
 }
 
 // That the host never comes to the line.
 fn put_no_send<W: Write>(
-    writer: &mut W,
-    nexuses: &[Nexus],
-    host: u8,
-    line: u32,
+    sheet: &mut Sheet<'_, W>,
+    send: RefusedSend<'_>,
 ) -> Result<(), WriteFault> {
-    put_unremembered(writer, nexuses, host)?;
-    say(
-        writer,
-        &[
-            Part::Text(b" So it must assume that"),
-            name(name_of(nexuses, host)),
-            Part::Text(b" comes to line"),
-            number(u64::from(line)),
-            Part::Text(b". It never does."),
-        ],
-    )
+    put_unremembered(sheet, send.host)?;
+    sheet.say(&[
+        Part::Text(b" So it must assume that"),
+        name(sheet.name_of(send.host)),
+        Part::Text(b" comes to line"),
+        number(u64::from(send.line)),
+        Part::Text(b". It never does."),
+    ])
 }
 
 // That this never is so at the line.
 fn put_never<W: Write>(
-    writer: &mut W,
-    nexuses: &[Nexus],
-    host: u8,
-    line: u32,
+    sheet: &mut Sheet<'_, W>,
+    send: RefusedSend<'_>,
     fact: Fact,
 ) -> Result<(), WriteFault> {
-    put_unremembered(writer, nexuses, host)?;
-    say(
-        writer,
-        &[
-            Part::Text(b" So it must assume that this may be so at line"),
-            number(u64::from(line)),
-            Part::Text(b":\n"),
-        ],
-    )?;
-    put_fact(writer, nexuses, host, fact)?;
-    put(writer, b"It never is so there.")
+    put_unremembered(sheet, send.host)?;
+    sheet.say(&[
+        Part::Text(b" So it must assume that this may be so at line"),
+        number(u64::from(send.line)),
+        Part::Text(b":\n"),
+    ])?;
+    put_fact(sheet, send.host, fact)?;
+    sheet.put(b"It never is so there.")
 }
 
 // That all this never is so at once at the line.
 fn put_never_together<W: Write>(
-    writer: &mut W,
-    nexuses: &[Nexus],
-    host: u8,
-    line: u32,
+    sheet: &mut Sheet<'_, W>,
+    send: RefusedSend<'_>,
     facts: &[Fact],
 ) -> Result<(), WriteFault> {
-    put_apart(writer, line)?;
-    put(
-        writer,
-        b" So it must assume that all this may be so at once:\n",
-    )?;
+    put_apart(sheet, send.line)?;
+    sheet.put(b" So it must assume that all this may be so at once:\n")?;
     for fact in facts {
-        put_fact(writer, nexuses, host, *fact)?;
+        put_fact(sheet, send.host, *fact)?;
     }
-    put(
-        writer,
-        b"Each of these comes up there, but never all at once.",
-    )
+    sheet.put(b"Each of these comes up there, but never all at once.")
 }
 
 // What a view knows nothing of: what was before, and what other scripts send, where there are any.
-fn put_unremembered<W: Write>(
-    writer: &mut W,
-    nexuses: &[Nexus],
-    host: u8,
-) -> Result<(), WriteFault> {
-    put(writer, b"it doesn't remember what was before")?;
-    if has_other_script(nexuses, host) {
-        put(
-            writer,
-            b", and of the others it knows the roles, not the scripts",
-        )?;
+fn put_unremembered<W: Write>(sheet: &mut Sheet<'_, W>, host: u8) -> Result<(), WriteFault> {
+    sheet.put(b"it doesn't remember what was before")?;
+    if has_other_script(sheet.nexuses, host) {
+        sheet.put(b", and of the others it knows the roles, not the scripts")?;
     }
-    put(writer, b".")
+    sheet.put(b".")
 }
 
 fn has_other_script(nexuses: &[Nexus], host: u8) -> bool {
@@ -157,32 +126,24 @@ fn has_other_script(nexuses: &[Nexus], host: u8) -> bool {
         && matches!(nexus.task, Task::Scripted { .. }))
 }
 
-fn put_fact<W: Write>(
-    writer: &mut W,
-    nexuses: &[Nexus],
-    host: u8,
-    fact: Fact,
-) -> Result<(), WriteFault> {
-    put(writer, b" ")?;
+fn put_fact<W: Write>(sheet: &mut Sheet<'_, W>, host: u8, fact: Fact) -> Result<(), WriteFault> {
+    sheet.put(b" ")?;
     match fact {
-        Fact::Key { nexus, key } => {
-            say(writer, &[name(name_of(nexuses, nexus))])?;
-            match key {
-                Some(key) => put_spaced(writer, &[Token::Text(b"has"), Token::Key(key)])?,
-                None => put(writer, b" is not registered")?,
+        Fact::Key { nexus, key: known } => {
+            sheet.say(&[name(sheet.name_of(nexus))])?;
+            match known {
+                Some(known) => sheet.say(&[Part::Text(b" has"), key(known)])?,
+                None => sheet.put(b" is not registered")?,
             }
         }
         Fact::Reserved(held) => {
-            put(writer, b" ")?;
-            put_held(writer, nexuses, held)?;
+            sheet.put(b" ")?;
+            put_held(&mut sheet.writer, sheet.nexuses, held)?;
         }
         Fact::Pending(attentions) => {
-            put_attentions(writer, attentions)?;
-            say(
-                writer,
-                &[Part::Text(b" pending for"), name(name_of(nexuses, host))],
-            )?;
+            put_attentions(sheet, attentions)?;
+            sheet.say(&[Part::Text(b" pending for"), name(sheet.name_of(host))])?;
         }
     }
-    put(writer, b"\n")
+    sheet.put(b"\n")
 }

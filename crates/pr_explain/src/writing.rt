@@ -3,8 +3,8 @@
 use crate::accepting::put_accepted;
 use crate::plan::Explanation;
 use crate::refusing::put_refused;
+use crate::sheet::Sheet;
 use pr_output::WriteFault;
-use pr_words::Wrapping;
 use std::io::Write;
 
 /// Writes what is said of a scenario whose text has these lines. On a fault, the writer is not called again. A line of more than
@@ -14,28 +14,14 @@ pub fn write_explanation<W: Write>(
     lines: &[&[u8]],
     explanation: &Explanation,
 ) -> Result<(), WriteFault> {
-    let mut writer = Wrapping::new(writer);
-    let writer = &mut writer;
     match explanation {
-        Explanation::Accepted(it) => {
-            put_accepted(
-                writer,
-                lines,
-                &it.scenario,
-                &it.costs,
-                &it.lints,
-                it.ends.as_ref(),
-            )
+        Explanation::Accepted(accepted) => {
+            let mut sheet = Sheet::new(writer, lines, &accepted.scenario);
+            put_accepted(&mut sheet, accepted)
         }
-        Explanation::Refused(it) => put_refused(
-            writer,
-            lines,
-            &it.scenario,
-            it.refusal,
-            &it.tables,
-            &it.finding,
-            &it.senders,
-            it.forgotten.as_deref(),
-        ),
+        Explanation::Refused(refused) => {
+            let mut sheet = Sheet::new(writer, lines, &refused.scenario);
+            put_refused(&mut sheet, refused)
+        }
     }
 }
