@@ -1,7 +1,6 @@
 //! The lists of a view.
 
 use crate::fact::Fact;
-use pr_cdb::codes::MOST_NEXUSES;
 use pr_roles::key_at;
 use pr_sets::{BIT_SET_SIZE, BitSet, MOST, Wide};
 use pr_views::{Possibilities, View, count_of_reservations, reservation_at};

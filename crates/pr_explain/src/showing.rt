@@ -31,7 +31,8 @@ pub(crate) fn first_refused(
         facts: Vec::new(alloc),
         chance: Combination::NONE,
     };
-    for list in lists(alloc, refused.view.hosts)? {
+    let nexuses = (0..refused.view.hosts).map(List::Nexus);
+    for list in nexuses.chain([List::Reservation, List::Pending]) {
         let Some(number) = narrow(alloc, refused, &mut left, list)? else {
             continue;
         };
@@ -44,17 +45,6 @@ pub(crate) fn first_refused(
         shown.facts.push(fact)?;
     }
     Ok(Some(shown))
-}
-
-// The lists of a view of so many nexuses.
-fn lists(alloc: Global, hosts: u8) -> Result<Vec<List>, AllocError> {
-    let mut lists = Vec::new(alloc);
-    for nexus in 0..hosts {
-        lists.push(List::Nexus(nexus))?;
-    }
-    lists.push(List::Reservation)?;
-    lists.push(List::Pending)?;
-    Ok(lists)
 }
 
 // Takes out of the list what the send needn't have to be refused. One item is left, whose number is answered.
