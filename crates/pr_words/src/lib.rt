@@ -7,9 +7,7 @@
 
 mod adopting;
 mod command;
-mod held;
 mod item;
-mod numbers;
 mod reply;
 pub mod saying;
 mod sense;
@@ -20,12 +18,11 @@ mod telling;
 mod wrapping;
 
 pub use command::{put_command, put_request};
-pub use held::put_held;
 pub use item::put_item;
 pub use reply::{put_class, put_reply};
 pub use sense::put_sense;
-pub use source_line::{line_in, put_carets, put_source_line};
-pub use standing::{name_of, put_end, put_start, put_unit};
+pub use source_line::{line_in, lines_from, put_carets, put_source_line};
+pub use standing::{name_of, put_end, put_held, put_start, put_unit};
 pub use tale::write_telling;
 pub use telling::{Departure, Instead, Note, Telling, telling_from, telling_of};
 pub use wrapping::Wrapping;

@@ -1,59 +1,41 @@
 //! Replies in words.
 
+use crate::saying::put_filled;
 use crate::sense::put_sense;
-use pr_cdb::{
-    Command, Reply, Request, Sense, Status, Wire, decode, decode_sense, holder_of, keys_of,
-};
+use pr_cdb::{Command, Reply, Request, Status, Wire, decode, decode_sense, holder_of, keys_of};
 use pr_output::{Token, WriteFault, put, put_spaced};
 use pr_script::Class;
 use std::io::Write;
 
-const GOOD: &[u8] = b"GOOD";
-
-const CONFLICT: &[u8] = b"RESERVATION CONFLICT";
-
-const BUSY: &[u8] = b"BUSY";
-
-const FULL: &[u8] = b"TASK SET FULL";
-
-const CHECK_CONDITION: &[u8] = b"CHECK CONDITION";
-
 /// Writes how a reply ends, as `GOOD` or `CHECK CONDITION 6/2a/05 (registrations preempted)`.
 pub fn put_class<W: Write>(writer: &mut W, class: Class) -> Result<(), WriteFault> {
     match class {
-        Class::Good => put(writer, GOOD),
-        Class::Conflict => put(writer, CONFLICT),
-        Class::Busy => put(writer, BUSY),
-        Class::Full => put(writer, FULL),
-        Class::Sense(sense) => put_check_condition(writer, Some(sense)),
+        Class::Good => put(writer, b"GOOD"),
+        Class::Conflict => put(writer, b"RESERVATION CONFLICT"),
+        Class::Busy => put(writer, b"BUSY"),
+        Class::Full => put(writer, b"TASK SET FULL"),
+        Class::Sense(sense) => {
+            put(writer, b"CHECK CONDITION ")?;
+            put_sense(writer, sense)
+        }
     }
 }
 
 /// Writes the reply to a command with these bytes, as `GOOD, generation 2, keys a1 b2`.
 pub fn put_reply<W: Write>(writer: &mut W, wire: &Wire, reply: &Reply) -> Result<(), WriteFault> {
-    match reply.status {
-        Status::Good => put_good(writer, wire, reply.bytes.as_slice()),
-        Status::CheckCondition => put_check_condition(writer, reply.sense),
-        Status::Conflict => put(writer, CONFLICT),
-        Status::Busy => put(writer, BUSY),
-        Status::TaskFull => put(writer, FULL),
-    }
-}
-
-fn put_check_condition<W: Write>(writer: &mut W, sense: Option<Sense>) -> Result<(), WriteFault> {
-    put(writer, CHECK_CONDITION)?;
-    match sense {
-        Some(sense) => {
-            put(writer, b" ")?;
-            put_sense(writer, sense)
-        }
-        None => Ok(()),
+    match (reply.status, reply.sense) {
+        (Status::Good, _) => put_good(writer, wire, reply.bytes.as_slice()),
+        (Status::CheckCondition, Some(sense)) => put_class(writer, Class::Sense(sense)),
+        (Status::CheckCondition, None) => put(writer, b"CHECK CONDITION"),
+        (Status::Conflict, _) => put_class(writer, Class::Conflict),
+        (Status::Busy, _) => put_class(writer, Class::Busy),
+        (Status::TaskFull, _) => put_class(writer, Class::Full),
     }
 }
 
 // GOOD, with what its data says.
 fn put_good<W: Write>(writer: &mut W, wire: &Wire, data: &[u8]) -> Result<(), WriteFault> {
-    put(writer, GOOD)?;
+    put_class(writer, Class::Good)?;
     if data.is_empty() {
         return Ok(());
     }
@@ -107,26 +89,22 @@ pub(crate) fn generation_in(data: &[u8]) -> Option<u32> {
 }
 
 fn put_generation<W: Write>(writer: &mut W, data: &[u8]) -> Result<(), WriteFault> {
-    let Some(generation) = generation_in(data) else {
-        return Ok(());
-    };
-    put_spaced(
-        writer,
-        &[
-            Token::Text(b"generation"),
-            Token::Number(u64::from(generation)),
-        ],
-    )?;
-    put(writer, b",")
+    match generation_in(data) {
+        Some(generation) => {
+            let generation = Token::Number(u64::from(generation));
+            put_filled(writer, b" generation {},", &[generation])
+        }
+        None => Ok(()),
+    }
 }
 
 // Where all registrants hold, the key is 0.
 fn put_holder<W: Write>(writer: &mut W, key: u64, kind: u8) -> Result<(), WriteFault> {
     let kind = Token::Number(u64::from(kind));
-    put_spaced(writer, &[Token::Text(b"type"), kind, Token::Text(b"of")])?;
-    if key == 0 {
-        put(writer, b" all registrants")
+    let holder = if key == 0 {
+        Token::Text(b"all registrants")
     } else {
-        put_spaced(writer, &[Token::Key(key)])
-    }
+        Token::Key(key)
+    };
+    put_filled(writer, b" type {} of {}", &[kind, holder])
 }

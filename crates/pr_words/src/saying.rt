@@ -1,6 +1,6 @@
 //! Sentences to a writer.
 
-use pr_output::{Token, WriteFault, put, put_spaced};
+use pr_output::{Token, WriteFault, put, put_spaced, put_word};
 use std::io::Write;
 
 /// A part of a sentence.
@@ -21,6 +21,24 @@ pub fn say<W: Write>(writer: &mut W, parts: &[Part<'_>]) -> Result<(), WriteFaul
         }
     }
     Ok(())
+}
+
+/// Writes the text, with the next of these words in place of each `{}`.
+pub fn put_filled<W: Write>(
+    writer: &mut W,
+    text: &[u8],
+    words: &[Token<'_>],
+) -> Result<(), WriteFault> {
+    let mut rest = text;
+    for word in words {
+        let Some(end) = rest.iter().position(|byte| *byte == b'{') else {
+            break;
+        };
+        put(writer, rest.get(..end).unwrap_or(b""))?;
+        put_word(writer, *word)?;
+        rest = rest.get(end.saturating_add(2)..).unwrap_or(b"");
+    }
+    put(writer, rest)
 }
 
 /// A name, after a space.

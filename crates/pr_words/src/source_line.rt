@@ -1,18 +1,26 @@
 //! Lines of a scenario's text, with their numbers.
 
+use crate::saying::put_filled;
 use itoa::Buffer;
-use pr_lines::next_line;
-use pr_output::{WriteFault, put, put_number};
+use pr_lines::{is_text, next_line};
+use pr_output::{Token, WriteFault, put};
 use std::io::Write;
+
+/// The text from the line of this number on, counted from 1; empty where it has no such line.
+pub fn lines_from(text: &[u8], number: u32) -> &[u8] {
+    let mut rest = text;
+    for _ in 1..number {
+        match next_line(rest) {
+            Some((_, others)) => rest = others,
+            None => return rest,
+        }
+    }
+    rest
+}
 
 /// The line of a text that has this number, counted from 1, without its end.
 pub fn line_in(text: &[u8], number: u32) -> Option<&[u8]> {
-    let mut rest = text;
-    for _ in 1..number {
-        let (_, others) = next_line(rest)?;
-        rest = others;
-    }
-    let (line, _) = next_line(rest)?;
+    let (line, _) = next_line(lines_from(text, number))?;
     Some(line)
 }
 
@@ -26,8 +34,7 @@ pub fn put_source_line<W: Write>(
     let Some(line) = line_in(text, number) else {
         return Ok(());
     };
-    put_number(writer, u64::from(number))?;
-    put(writer, b" | ")?;
+    put_filled(writer, b"{} | ", &[Token::Number(u64::from(number))])?;
     for byte in line {
         put(writer, &[shown(*byte)])?;
     }
@@ -57,11 +64,7 @@ pub fn put_carets<W: Write>(
 
 // What stands for the byte where people read it.
 fn shown(byte: u8) -> u8 {
-    if byte == b'\t' || (b' '..=b'~').contains(&byte) {
-        byte
-    } else {
-        b'?'
-    }
+    if is_text(&[byte]) { byte } else { b'?' }
 }
 
 // What is as wide as the byte.

@@ -1,12 +1,12 @@
 //! How the unit and each nexus stand, in words.
 
-use crate::held::put_held;
+use crate::saying::put_filled;
 use crate::sense::put_sense;
 use crate::wrapping::Wrapping;
 use pr_attention::{Attention, Pending};
 use pr_audit::End;
-use pr_output::{Token, WriteFault, put, put_line, put_spaced};
-use pr_registry::Registry;
+use pr_output::{Token, WriteFault, put};
+use pr_registry::{Held, Registry};
 use pr_roles::Nexus;
 use pr_unit::Unit;
 use std::io::Write;
@@ -19,18 +19,40 @@ pub fn name_of(nexuses: &[Nexus], host: u8) -> &[u8] {
     }
 }
 
+/// Writes a reservation: `nothing reserved`, `type 5 of a`, or `type 8 of all registrants`.
+pub fn put_held<W: Write>(
+    writer: &mut W,
+    nexuses: &[Nexus],
+    held: Option<Held>,
+) -> Result<(), WriteFault> {
+    let (kind, holder) = match held {
+        None => return put(writer, b"nothing reserved"),
+        Some(Held::One(kind, host)) => (kind, name_of(nexuses, host)),
+        Some(Held::All(kind)) => (kind, b"all registrants".as_slice()),
+    };
+    let kind = Token::Number(u64::from(kind.code()));
+    put_filled(writer, b"type {} of {}", &[kind, Token::Text(holder)])
+}
+
 /// Writes the line of the unit: its generation, its reservation, and who is registered with which key.
 pub fn put_unit<W: Write>(
     writer: &mut W,
     nexuses: &[Nexus],
     unit: &Registry,
 ) -> Result<(), WriteFault> {
-    put(writer, b"unit generation")?;
-    put_spaced(writer, &[Token::Number(u64::from(unit.generation()))])?;
-    put(writer, b", ")?;
+    let generation = Token::Number(u64::from(unit.generation()));
+    put_filled(writer, b"unit generation {}, ", &[generation])?;
     put_held(writer, nexuses, unit.held())?;
     for host in 0..unit.hosts() {
-        put_registration(writer, name_of(nexuses, host), unit.key(host))?;
+        let name = name_of(nexuses, host);
+        match unit.key(host) {
+            Some(key) => put_filled(
+                writer,
+                b", {} has {}",
+                &[Token::Text(name), Token::Key(key)],
+            )?,
+            None => put_filled(writer, b", {} not registered", &[Token::Text(name)])?,
+        }
     }
     put(writer, b"\n")
 }
@@ -57,27 +79,10 @@ fn put_waiting<W: Write>(
     for attention in Attention::ALL {
         if pending.has(attention) {
             put_sense(writer, attention.sense())?;
-            put(writer, b" is pending for")?;
-            put_spaced(writer, &[Token::Text(owner)])?;
-            put(writer, b"\n")?;
+            put_filled(writer, b" is pending for {}\n", &[Token::Text(owner)])?;
         }
     }
     Ok(())
-}
-
-fn put_registration<W: Write>(
-    writer: &mut W,
-    name: &[u8],
-    key: Option<u64>,
-) -> Result<(), WriteFault> {
-    put(writer, b",")?;
-    match key {
-        Some(key) => put_spaced(
-            writer,
-            &[Token::Text(name), Token::Text(b"has"), Token::Key(key)],
-        ),
-        None => put_spaced(writer, &[Token::Text(name), Token::Text(b"not registered")]),
-    }
 }
 
 /// Writes the line of how a nexus stands, and how many of its commands reached the unit.
@@ -89,45 +94,25 @@ pub fn put_end<W: Write>(
 ) -> Result<(), WriteFault> {
     match end {
         End::Stopped(word) => {
-            let word = Token::Text(word.as_str().as_bytes());
-            put_host(writer, name, b"stopped with the word", word, sent)
+            put_filled(
+                writer,
+                b"host {} stopped with the word",
+                &[Token::Text(name)],
+            )?;
+            let word = word.as_str().as_bytes();
+            put_filled(writer, b" {} and", &[Token::Text(word)])?;
         }
-        End::Ready(line) => {
-            let line = Token::Number(u64::from(line));
-            put_host(writer, name, b"is ready at line", line, sent)
-        }
-        End::Trapped(line) => {
-            let line = Token::Number(u64::from(line));
-            put_host(writer, name, b"is trapped at line", line, sent)
-        }
-        End::Left(_) => put_line(
+        End::Ready(line) => put_filled(
             writer,
-            Token::Text(b"guest"),
-            &[
-                Token::Text(name),
-                Token::Text(b"sent"),
-                Token::Number(u64::from(sent)),
-            ],
-        ),
+            b"host {} is ready at line {} and",
+            &[Token::Text(name), Token::Number(u64::from(line))],
+        )?,
+        End::Trapped(line) => put_filled(
+            writer,
+            b"host {} is trapped at line {} and",
+            &[Token::Text(name), Token::Number(u64::from(line))],
+        )?,
+        End::Left(_) => put_filled(writer, b"guest {}", &[Token::Text(name)])?,
     }
-}
-
-fn put_host<'a, W: Write>(
-    writer: &mut W,
-    name: &'a [u8],
-    how: &'a [u8],
-    what: Token<'a>,
-    sent: u32,
-) -> Result<(), WriteFault> {
-    put_line(
-        writer,
-        Token::Text(b"host"),
-        &[
-            Token::Text(name),
-            Token::Text(how),
-            what,
-            Token::Text(b"and sent"),
-            Token::Number(u64::from(sent)),
-        ],
-    )
+    put_filled(writer, b" sent {}\n", &[Token::Number(u64::from(sent))])
 }

@@ -3,12 +3,13 @@
 use crate::command::put_command;
 use crate::item::put_item;
 use crate::reply::put_reply;
+use crate::saying::put_filled;
 use crate::standing::{name_of, put_end, put_unit};
 use crate::telling::{Departure, Instead, Telling};
 use crate::wrapping::Wrapping;
 use pr_audit::End;
 use pr_cdb::Status;
-use pr_output::{Token, WriteFault, put, put_line, put_number, put_spaced};
+use pr_output::{Token, WriteFault, put, put_spaced};
 use pr_roles::{Entry, Item, Nexus, Scenario};
 use std::io::Write;
 
@@ -39,24 +40,17 @@ fn put_items<W: Write>(
     for (others, (item, note)) in history.iter().zip(&telling.notes).enumerate() {
         put_item(writer, nexuses, others as u64 + 1, item, note.line)?;
         if let (Item::Sent(entry), true) = (item, note.is_out_of_role) {
-            put_out_of_role(writer, name_of(nexuses, entry.host))?;
+            put_filled(
+                writer,
+                b"  which the role of {} does not permit to end GOOD there\n",
+                &[Token::Text(name_of(nexuses, entry.host))],
+            )?;
         }
         if let Some(at) = note.departure {
             put_departure(writer, nexuses, item, &telling.departures, at)?;
         }
     }
     Ok(())
-}
-
-fn put_out_of_role<W: Write>(writer: &mut W, name: &[u8]) -> Result<(), WriteFault> {
-    put_line(
-        writer,
-        Token::Text(b"  which the role of"),
-        &[
-            Token::Text(name),
-            Token::Text(b"does not permit to end GOOD there"),
-        ],
-    )
 }
 
 // That the item isn't legal, and what would have been in its place. The first of them is the one that an audit tells.
@@ -73,9 +67,8 @@ fn put_departure<W: Write>(
     if at > 0 {
         put(writer, b"then ")?;
     }
-    put(writer, b"illegal ")?;
-    put_number(writer, departure.place as u64)?;
-    put(writer, b": ")?;
+    let place = Token::Number(departure.place as u64);
+    put_filled(writer, b"illegal {}: ", &[place])?;
     put_instead(writer, nexuses, item, &departure.instead)?;
     put(writer, b"\n")
 }
@@ -89,13 +82,13 @@ fn put_count<W: Write>(
     let count = telling.departures.len();
     if telling.illegal.is_none() {
         let items = Token::Number(history.len() as u64);
-        return put_line(writer, Token::Text(b"legal"), &[items]);
+        return put_filled(writer, b"legal {}\n", &[items]);
     }
     if count < 2 {
         return Ok(());
     }
     let count = Token::Number(count as u64);
-    put_line(writer, Token::Text(b"illegal in all:"), &[count])
+    put_filled(writer, b"illegal in all: {}\n", &[count])
 }
 
 fn put_instead<W: Write>(
@@ -104,9 +97,15 @@ fn put_instead<W: Write>(
     item: &Item,
     instead: &Instead,
 ) -> Result<(), WriteFault> {
-    match item {
-        Item::Sent(entry) => put_instead_of(writer, name_of(nexuses, entry.host), entry, instead),
-        Item::Reset => put_resets(writer, instead),
+    match (item, instead) {
+        (Item::Sent(entry), _) => put_instead_of(
+            writer,
+            name_of(nexuses, entry.host),
+            entry,
+            instead,
+        ),
+        (Item::Reset, Instead::AtMost(most)) => put_most(writer, &[Token::Text(b"resets")], *most),
+        (Item::Reset, _) => Ok(()),
     }
 }
 
@@ -122,88 +121,70 @@ fn put_instead_of<W: Write>(
             put_reply(writer, &entry.wire, reply)
         }
         Instead::Sending { line, command } => {
-            put(writer, b"the script of")?;
             let line = Token::Number(u64::from(*line));
-            put_spaced(
+            put_filled(
                 writer,
-                &[Token::Text(name), Token::Text(b"is at line"), line],
+                b"the script of {} is at line {}, and would have sent ",
+                &[Token::Text(name), line],
             )?;
-            put(writer, b", and would have sent ")?;
             put_command(writer, command)
         }
         Instead::Nothing(end) => put_nothing(writer, name, *end),
         Instead::NotModelled => put(writer, b"the model has no such command"),
-        Instead::NotPermitted => {
-            put(writer, b"the role of")?;
-            put_spaced(writer, &[Token::Text(name)])?;
-            put(writer, b" does not permit that this ends GOOD there")
+        Instead::NotPermitted => put_filled(
+            writer,
+            b"the role of {} does not permit that this ends GOOD there",
+            &[Token::Text(name)],
+        ),
+        Instead::AtMost(most) => {
+            let word = if entry.reply.status == Status::Busy {
+                b"busy"
+            } else {
+                b"full"
+            };
+            put_most(writer, &[Token::Text(word), Token::Text(name)], *most)
         }
-        Instead::Refusals(most) => put_refusals(writer, name, entry.reply.status, *most),
         Instead::Bare => put(
             writer,
             b"such a reply has no sense and no data, and this one has",
         ),
-        Instead::Resets(_) => Ok(()),
     }
 }
 
 fn put_nothing<W: Write>(writer: &mut W, name: &[u8], end: End) -> Result<(), WriteFault> {
-    put(writer, b"the script of")?;
-    put_spaced(writer, &[Token::Text(name)])?;
     match end {
         End::Stopped(word) => {
-            put(writer, b" has stopped with the word")?;
-            put_spaced(writer, &[Token::Text(word.as_str().as_bytes())])?;
+            put_filled(
+                writer,
+                b"the script of {} has stopped with the word",
+                &[Token::Text(name)],
+            )?;
+            let word = word.as_str().as_bytes();
+            put_filled(writer, b" {}, and sends nothing more", &[Token::Text(word)])
         }
-        End::Ready(line) | End::Trapped(line) => {
-            put(writer, b" has no arm for the reply at line")?;
-            put_spaced(writer, &[Token::Number(u64::from(line))])?;
-        }
-        End::Left(_) => {}
+        End::Ready(line) | End::Trapped(line) => put_filled(
+            writer,
+            b"the script of {} has no arm for the reply at line {}, and sends nothing more",
+            &[Token::Text(name), Token::Number(u64::from(line))],
+        ),
+        End::Left(_) => Ok(()),
     }
-    put(writer, b", and sends nothing more")
 }
 
-// How often such a refusal comes at most.
-fn put_refusals<W: Write>(
+// That the scenario has no line of these words, or how often such an item comes at most by that line.
+fn put_most<W: Write>(
     writer: &mut W,
-    name: &[u8],
-    status: Status,
+    declaring: &[Token<'_>],
     most: u32,
 ) -> Result<(), WriteFault> {
-    let word = match status {
-        Status::Busy => b"busy".as_slice(),
-        Status::TaskFull | Status::Good | Status::CheckCondition | Status::Conflict => b"full",
-    };
     if most == 0 {
         put(writer, b"the scenario has no line")?;
-        return put_spaced(writer, &[Token::Text(word), Token::Text(name)]);
+        return put_spaced(writer, declaring);
     }
     put(writer, b"the scenario declares")?;
-    put_spaced(writer, &[Token::Text(word), Token::Text(name)])?;
-    put_most(writer, most)
-}
-
-fn put_resets<W: Write>(writer: &mut W, instead: &Instead) -> Result<(), WriteFault> {
-    match instead {
-        Instead::Resets(0) => put(writer, b"the scenario has no line resets"),
-        Instead::Resets(most) => {
-            put(writer, b"the scenario declares resets")?;
-            put_most(writer, *most)
-        }
-        Instead::Answer(_)
-        | Instead::Sending { .. }
-        | Instead::Nothing(_)
-        | Instead::NotModelled
-        | Instead::NotPermitted
-        | Instead::Refusals(_)
-        | Instead::Bare => Ok(()),
-    }
-}
-
-fn put_most<W: Write>(writer: &mut W, most: u32) -> Result<(), WriteFault> {
-    put_spaced(writer, &[Token::Number(u64::from(most))])?;
-    put(writer, b", and no more")
+    put_spaced(writer, declaring)?;
+    let most = Token::Number(u64::from(most));
+    put_filled(writer, b" {}, and no more", &[most])
 }
 
 fn put_ends<W: Write>(

@@ -57,14 +57,11 @@ pub enum Instead {
     /// The guest's role does not permit that such a command ends GOOD.
     NotPermitted,
 
-    /// Such a refusal comes so often at most.
-    Refusals(u32),
+    /// Such a refusal, or a reset, comes so often at most.
+    AtMost(u32),
 
     /// Such a refusal comes without sense and data.
     Bare,
-
-    /// Resets come so often at most.
-    Resets(u32),
 }
 
 /// An item that isn't legal: the first, or one behind it, where all that was answered before is taken as it is.
@@ -241,29 +238,19 @@ fn instead_of(auditor: &Auditor, scenario: &Scenario, item: &Item) -> Instead
 {
     let entry = match item {
         Item::Sent(entry) => entry,
-        Item::Reset => return Instead::Resets(scenario.parts().resets),
+        Item::Reset => return Instead::AtMost(scenario.parts().resets),
     };
     if !is_declared(scenario, entry.host) {
         return Instead::NotModelled;
     }
     match auditor.end(entry.host, 0) {
-        End::Ready(_) => instead_of_sending(auditor, scenario, entry),
-        End::Left(_) => instead_of_reply(auditor, scenario, entry),
-        End::Stopped(word) => Instead::Nothing(End::Stopped(word)),
-        End::Trapped(line) => Instead::Nothing(End::Trapped(line)),
-    }
-}
-
-// The same of a host whose script goes on.
-fn instead_of_sending(auditor: &Auditor, scenario: &Scenario, entry: &Entry) -> Instead
-    requires acts { ActFor (scenario_of scenario.now) (world_at auditor.now []) }
-    requires there { entry.now.host < length (scenario_of scenario.now).nexuses }
-{
-    match auditor.next_command(entry.host) {
-        Some((line, command)) if entry.wire != encode(&command) => {
-            Instead::Sending { line, command }
-        }
-        Some(_) | None => instead_of_reply(auditor, scenario, entry),
+        end @ (End::Stopped(_) | End::Trapped(_)) => Instead::Nothing(end),
+        End::Ready(_) | End::Left(_) => match auditor.next_command(entry.host) {
+            Some((line, command)) if entry.wire != encode(&command) => {
+                Instead::Sending { line, command }
+            }
+            Some(_) | None => instead_of_reply(auditor, scenario, entry),
+        },
     }
 }
 
@@ -289,7 +276,7 @@ fn instead_of_refusal(nexus: &Nexus, reply: &Reply, how: How) -> Instead {
     if *reply != refused(reply.status) {
         return Instead::Bare;
     }
-    Instead::Refusals(nexus.most_refusals(how))
+    Instead::AtMost(nexus.most_refusals(how))
 }
 
 // How each nexus stands.

@@ -137,8 +137,5 @@ fn indent_of(word: &[u8], spaces: usize) -> usize {
 }
 
 fn send<W: Write>(writer: &mut W, text: &[u8]) -> Result<()> {
-    match put(writer, text) {
-        Ok(()) => Ok(()),
-        Err(_) => Err(Error::from(ErrorKind::Other)),
-    }
+    put(writer, text).or(Err(Error::from(ErrorKind::Other)))
 }
