@@ -1,6 +1,6 @@
 -- Agrees with docs/FORMATS.md, 'Terms'.
 -- The terms that words are: names, keys, numbers, types and codes.
-use Rattle.std.specs.Prelude.{ℕ, ◌+◌, ◌-◌, ◌*◌, ◌==◌, ◌&&◌, nat_lt, nat_le, if◌then◌else◌, List, [], ◌∷◌, length, take, drop, slice_index, codes, Option, Some, None, unwrap_or, fold, bytes_eq}
+use Rattle.std.specs.Prelude.{ℕ, ◌+◌, ◌-◌, ◌*◌, ◌==◌, ◌&&◌, nat_lt, nat_le, if◌then◌else◌, List, [], length, take, drop, slice_index, codes, Option, Some, None, unwrap_or, fold, bytes_eq}
 use Rattle.std.specs.List.{list_all}
 use Rattle.pr_cdb.specs.declared.command.Kind.{Kind}
 use Rattle.pr_cdb.specs.declared.reply.Sense.{Sense}

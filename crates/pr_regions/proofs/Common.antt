@@ -1,5 +1,5 @@
 -- The names that most proofs of this crate cite, passed on from one place. Declares nothing.
-pub use Rattle.std.proofs.Common.{◌≡◌, ℕ, zero, suc, ◌+◌, ◌<◌, ◌≤◌, max, Bool, true, false, cond, not, ◌&&◌, ◌||◌, ◌≢◌, ◌⊎◌, List, [], ◌∷◌, ◌++◌, length, get_or, is_some, is_none, if◌then◌else◌, IsTrue, nat_lt, nat_le, ◌==◌, bit_or, Some, None, Option, option_map, unwrap_or, sym, refl, ap, ◌∙◌, subst, inl, inr, arith, lit<, length-append}
+pub use Rattle.std.proofs.Common.{◌≡◌, ℕ, zero, suc, ◌+◌, ◌<◌, ◌≤◌, Bool, true, false, cond, not, ◌&&◌, ◌||◌, ◌≢◌, ◌⊎◌, List, [], ◌∷◌, ◌++◌, length, get_or, is_some, is_none, if◌then◌else◌, IsTrue, nat_lt, nat_le, ◌==◌, bit_or, Some, None, Option, option_map, unwrap_or, sym, refl, ap, ◌∙◌, subst, inl, inr, arith, lit<, length-append}
 pub use Rattle.std.specs.List.{position, list_any, Contains}
 pub use Rattle.std.proofs.lemmas.Bool.{not-true, false≢true, eq-eqb, ne_eqb, and_parts}
 pub use Rattle.std.proofs.lemmas.Bool.Decides.{nat_tests, eqb_tells}

@@ -1,6 +1,6 @@
 -- Agrees with docs/MODEL.md, 'The order in which a request is answered'.
 -- What a command asks for, its key named by a number.
-use Rattle.std.specs.Prelude.{ℕ, suc, ◌≤◌, Bool, true, ◌==◌, List, Option, Some, None, IfSome, option_map, position, unwrap_or}
+use Rattle.std.specs.Prelude.{ℕ, suc, ◌≤◌, Bool, true, ◌==◌, List, Option, Some, IfSome, option_map, position, unwrap_or}
 use Rattle.std.specs.Option.{option_map_or}
 use Rattle.pr_cdb.specs.declared.command.Kind.{Kind}
 use Rattle.pr_cdb.specs.declared.command.Command.{Command}

@@ -1,14 +1,14 @@
 -- Agrees with SPC-4, 'Registering', 'Unregistering', 'Reserving', 'Releasing', 'Preempting', 'Clearing'; docs/MODEL.md, 'PREEMPT'.
 -- What a service action that ends GOOD makes of the registrations, the reservation and PRGENERATION
 -- (SPC-4, 'Registering', 'Unregistering', 'Reserving', 'Releasing', 'Preempting', 'Clearing').
-use Rattle.std.specs.Prelude.{ℕ, ◌+◌, ◌%◌, ◌^◌, ◌==◌, ◌&&◌, if◌then◌else◌, Option, Some, None, option_map}
+use Rattle.std.specs.Prelude.{ℕ, ◌+◌, ◌%◌, ◌^◌, if◌then◌else◌, Option, Some, None, option_map}
 use Rattle.std.specs.FinMap as map
 use Rattle.pr_cdb.specs.declared.command.Kind.{Kind}
 use Rattle.pr_registry.specs.declared.held.Held.{Held}
 use Rattle.pr_registry.specs.declared.held.Held.TheVariants.{One, All}
 use Rattle.pr_registry.specs.Hosts.{Keys, just, without, is_empty}
-use Rattle.pr_registry.specs.Registrations.{State, is_registered, new_reservation, holds_alone}
-use Rattle.pr_registry.specs.Changes.{Case, ReplacesAll, ReplacesHolder, RemovesKey, no_change, preempt_case, removed_by_preempt, is_released, change_on_unregister, change_on_release, change_on_clear, change_on_preempt}
+use Rattle.pr_registry.specs.Registrations.{State, new_reservation, holds_alone}
+use Rattle.pr_registry.specs.Changes.{Case, ReplacesAll, ReplacesHolder, RemovesKey, preempt_case, removed_by_preempt, is_released}
 
 -- the next generation, which wraps at 2^32
 abbrev pub next : ℕ → ℕ

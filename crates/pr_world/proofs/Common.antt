@@ -37,4 +37,3 @@ pub use Rattle.pr_world.specs.declared.participant.Participant.{Participant}
 pub use Rattle.pr_audit.specs.inside.Auditing.{Reaches}
 pub use Rattle.pr_world.specs.inside.Participations.{Participation, participation_of, schedule_by, HappensBy, StandsFor, schedule_of}
 pub use Rattle.pr_world.specs.inside.Turns.{does}
-pub use Rattle.pr_cdb.specs.declared.codes.TheConstants.{MOST_CDB_LENGTH, PARAMETER_LIST_LENGTH}

@@ -1,5 +1,5 @@
 -- What sets of codes contain, and that they are equal where they contain the same.
-use Rattle.std.proofs.Common.{◌≡◌, ℕ, Bool, true, false, ◌==◌, ◌&&◌, ◌||◌, ◌↔◌, not, IsTrue, refl, sym, ap, ◌∙◌, arith}
+use Rattle.std.proofs.Common.{◌≡◌, ℕ, Bool, true, false, ◌↔◌, not, IsTrue, refl, sym, ap, ◌∙◌, arith}
 use Rattle.std.specs.FinSet as set
 use Rattle.std.proofs.lemmas.Bool.{false≢true}
 use Rattle.std.proofs.lemmas.Bool.Decides.{nat_tests}
@@ -44,23 +44,3 @@ is_attention-code_of _ = refl
 
 pub AreAttentions-no_code : AreAttentions no_code
 AreAttentions-no_code q there = let none = contains-no_code q in cc
-
-pub AreAttentions-insert : (s : Codes) (a : Attention) → AreAttentions s → AreAttentions (set.insert s (code_of a))
-AreAttentions-insert s a are q there =
-    at (q == code_of a) refl
-  where
-    known : (q == code_of a || set.contains s q) ≡ true
-    known = sym (contains-insert_code s (code_of a) q) ∙ there
-
-    at : (b : Bool) → (q == code_of a) ≡ b → IsTrue (is_attention q)
-    at true is = let same : q ≡ code_of a = grind (arith, nat_tests) in rw same (is_attention-code_of a)
-    at false is = are q (sym (ap (λ b. b || set.contains s q) is) ∙ known)
-
-pub AreAttentions-remove : (s : Codes) (code : ℕ) → AreAttentions s → AreAttentions (set.remove s code)
-AreAttentions-remove s code are q there =
-    at (not (q == code)) (set.contains s q) refl (sym (contains-remove_code s code q) ∙ there)
-  where
-    at : (b c : Bool) → set.contains s q ≡ c → (b && c) ≡ true → IsTrue (is_attention q)
-    at true true is _ = are q is
-    at true false is both = cc
-    at false c is both = cc

@@ -1,22 +1,11 @@
 -- The bits of a word, as the set of numbers that it stands for.
-use Rattle.pr_sets.proofs.Common.{◌≡◌, ℕ, ◌-◌, ◌*◌, ◌%◌, ◌^◌, ◌<◌, ◌≤◌, true, false, ◌==◌, ◌&&◌, not, nat_le, ap, ◌∙◌, inl, inr, ◌⊎◌, arith, bit_and, w16, bit_at, trailing_zeros, nat_tests, leb_tells, bit_at-lt, bit_at_above, bit_at-trailing_zeros, same_from_bits_below}
+use Rattle.pr_sets.proofs.Common.{◌≡◌, ℕ, ◌-◌, ◌*◌, ◌%◌, ◌^◌, ◌<◌, ◌≤◌, true, false, ◌==◌, ◌&&◌, not, nat_le, ap, ◌∙◌, inl, inr, ◌⊎◌, arith, bit_and, w16, bit_at, trailing_zeros, nat_tests, leb_tells, bit_at-lt, bit_at-trailing_zeros, same_from_bits_below}
 use Rattle.std.proofs.Math.Bool.{and_comm}
 use Rattle.pr_sets.specs.declared.bit_set.BitSet.{BitSet}
 use Rattle.pr_sets.specs.BitSets.{has, IsLeast}
 use Rattle.pr_sets.proofs.lemmas.WordBits.{has-except, has-only}
 
 -- ---- which numbers a word has
-pub has_none_above : (w : BitSet) (n : ℕ) → w.bits < 2 ^ 16 → 16 ≤ n → has w n ≡ false
-has_none_above w n fits large = ap (λ b. b == 1) (bit_at_above w.bits 16 n fits large)
-
--- each number in a word is below 16
-pub has-lt : (w : BitSet) (n : ℕ) → w.bits < 2 ^ 16 → has w n ≡ true → n < 16
-has-lt w n fits there = at (leb_tells 16 n)
-  where
-    at : ((nat_le 16 n ≡ true) × (16 ≤ n)) ⊎ ((nat_le 16 n ≡ false) × (n < 16)) → n < 16
-    at (inl large) =
-        let absent = has_none_above w n fits large.1 in grind (arith, nat_tests)
-    at (inr small) = small.1
 
 -- words of the same numbers have the same bits
 pub same_bits : (v w : BitSet) → v.bits < 2 ^ 16 → w.bits < 2 ^ 16 → ((n : ℕ) → n < 16 → has v n ≡ has w n) → v.bits ≡ w.bits
@@ -25,13 +14,6 @@ same_bits v w v_fits w_fits same =
   where
     at : (x y : ℕ) → x < 2 → y < 2 → (x == 1) ≡ (y == 1) → x ≡ y
     at x y one other both = grind (arith, nat_tests)
-
-pub same_words : (v w : BitSet) → v.bits < 2 ^ 16 → w.bits < 2 ^ 16 → ((n : ℕ) → n < 16 → has v n ≡ has w n) → v ≡ w
-same_words v w v_fits w_fits same =
-    ap of_bits (same_bits v w v_fits w_fits same)
-  where
-    of_bits : ℕ → BitSet
-    of_bits b = record { bits = b }
 
 -- a word that is not 0 has a least number
 pub least_there : (w : BitSet) → 0 < w.bits → w.bits < 2 ^ 16 → IsLeast w (trailing_zeros w16 w.bits)

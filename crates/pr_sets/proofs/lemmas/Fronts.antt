@@ -1,8 +1,8 @@
 -- Tests that say of the numbers below a bound what another test says, and no of the rest.
-use Rattle.pr_sets.proofs.Common.{◌≡◌, ◌≢◌, ◌⊎◌, ℕ, ◌+◌, ◌<◌, Bool, true, false, ◌==◌, ◌&&◌, ◌||◌, nat_lt, sym, refl, ap, ◌∙◌, inl, inr, arith, nat_tests, eqb_tells, Numbers}
+use Rattle.pr_sets.proofs.Common.{◌≡◌, ◌≢◌, ◌⊎◌, ℕ, ◌+◌, Bool, true, false, ◌==◌, ◌&&◌, ◌||◌, nat_lt, sym, ap, ◌∙◌, inl, inr, arith, nat_tests, eqb_tells, Numbers}
 use Rattle.std.specs.FinSet as set
 use Rattle.std.proofs.lemmas.Bool.{lt-ltb, le-ltb}
-use Rattle.std.proofs.Math.Bool.{and-false, and-true}
+use Rattle.std.proofs.Math.Bool.{and-false}
 use Rattle.pr_sets.proofs.lemmas.Members.{contains-insert}
 
 -- q says what p says of each number below n, and no of the others
@@ -32,14 +32,6 @@ front_skips q p n front denies m = front m ∙ at (eqb_tells m n)
         let none = ap p same.1 ∙ denies in
         ap (λ b. b && nat_lt m n) none ∙ sym (ap (λ b. b && nat_lt m (n + 1)) none)
     at (inr other) = ap (λ b. p m && b) (further m n other.1)
-
--- all of it, where p says yes of numbers below n alone
-pub front_all : (q p : ℕ → Bool) (n : ℕ) → IsFront q p n → ((m : ℕ) → p m ≡ true → m < n) → (m : ℕ) → q m ≡ p m
-front_all q p n front below m = front m ∙ at (p m) refl
-  where
-    at : (b : Bool) → p m ≡ b → (p m && nat_lt m n) ≡ p m
-    at true says = ap (λ b. p m && b) (lt-ltb m n (below m says)) ∙ and-true (p m)
-    at false denies = ap (λ b. b && nat_lt m n) denies ∙ sym denies
 
 -- ---- sets of the numbers of which a test says yes
 

@@ -1,6 +1,6 @@
 -- That a start is allowed.
-use Rattle.pr_witness.proofs.Common.{◌≡◌, ℕ, ◌+◌, ◌<◌, List, length, Option, Some, None, refl, sym, ◌∙◌, subst, below_more, arith, map, slice_get, nat_tests, length-map, same_Some, slice_get_within, UnitState, Parts, scenario_of, IsAllowedStart, MayStartBelow}
-use Rattle.std.proofs.Common.{◌≤◌, Bool, true, false, ◌==◌, IsTrue}
+use Rattle.pr_witness.proofs.Common.{◌≡◌, ℕ, ◌<◌, length, Option, Some, None, refl, sym, ◌∙◌, subst, arith, map, slice_get, length-map, same_Some, slice_get_within, UnitState, Parts, scenario_of, IsAllowedStart, MayStartBelow}
+use Rattle.std.proofs.Common.{◌≤◌, true}
 use Rattle.std.specs.Prelude.{option_map}
 use Rattle.std.specs.FinSet as set
 use Rattle.std.specs.List.{Contains}
@@ -12,10 +12,6 @@ use Rattle.pr_roles.specs.Scenarios.{Nexus, nexus_of}
 use Rattle.pr_witness.specs.inside.Starting.{MayStart}
 
 -- ---- nexuses
-
--- one nexus more
-pub may_start_more : (ns : List NexusPart) (u : UnitState) (i : ℕ) (n : NexusPart) → slice_get ns i ≡ Some n → MayStart n u i → MayStartBelow ns u i → MayStartBelow ns u (i + 1)
-may_start_more ns u i n is may below = below_more _ i below (λ m at. subst (λ x. MayStart x u i) (same_Some _ _ (sym is ∙ at)) may)
 
 record Found (p : Parts) (u : UnitState) (h : ℕ) (n : Nexus) : Type 0 where
   pub part : NexusPart

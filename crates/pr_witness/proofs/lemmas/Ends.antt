@@ -37,9 +37,6 @@ over_budget s history h t script budget there is over w whole keeps =
     let bad : budget < budget = omega arith in
     absurd (omega (arith, bad))
 
-pub task_from : (s : Scenario) (h : ℕ) (n : NexusPart) → nexus s h ≡ Some (nexus_of n) → task s h ≡ Some (task_of n.task)
-task_from s h n is = ap (λ o. option_map_or (λ x. Some x.task) o None) is
-
 -- the end of one nexus more
 endings_take : (ks : List Control) (plans : List (List Command)) (i : ℕ) (plan : List Command) → i < length ks → slice_get plans i ≡ Some plan
     → take (i + 1) (endings ks plans) ≡ take i (endings ks plans) ++ ending (option_map_or (λ c. c) (slice_get ks i) Free) plan ∷ []

@@ -1,5 +1,5 @@
 -- States that differ in what is pending for one nexus alone: views of the others show them alike.
-use Rattle.pr_interference.proofs.Common.{◌≡◌, ℕ, true, false, not, ◌&&◌, ◌||◌, ◌≢◌, ◌==◌, sym, refl, ap, ◌∙◌, arith, nat_tests, Command, State, UnitState, effect, Registration, Reservation, Attentions, View, Shows, IsLike, so_like}
+use Rattle.pr_interference.proofs.Common.{◌≡◌, ℕ, false, not, ◌&&◌, ◌≢◌, ◌==◌, sym, refl, ap, ◌∙◌, Command, State, UnitState, effect, Registration, Reservation, Attentions, View, Shows, IsLike, so_like}
 use Rattle.std.specs.FinSet as set
 use Rattle.std.specs.List.{list_any}
 use Rattle.std.proofs.lemmas.Bool.{and_parts, eq-eqb, ne_eqb}

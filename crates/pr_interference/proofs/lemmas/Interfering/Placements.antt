@@ -1,5 +1,5 @@
 -- What a clause leads to under one reservation, whatever its sender's standing.
-use Rattle.pr_interference.proofs.Common.{◌≡◌, ℕ, suc, ◌+◌, ◌<◌, ◌≤◌, Bool, true, false, ◌||◌, ◌⊎◌, List, [], ◌∷◌, length, if◌then◌else◌, ◌==◌, Some, None, Option, sym, refl, ap, ◌∙◌, subst, inl, inr, arith, false≢true, kind_of, Held, UnitState, is_declared, is_action, Action, Clause, view_in, Scope, Item, Registration, IsSo, Possibilities, one_registration, number_in, purpose_of_preempt, Place, Purpose, Adds, adds_both, same_reservation, Onlooker, purpose_for, StandingLeads, PlaceLeads, IsWatched, MOST_KEYS}
+use Rattle.pr_interference.proofs.Common.{◌≡◌, ℕ, ◌<◌, ◌≤◌, Bool, true, false, ◌||◌, ◌⊎◌, List, [], length, if◌then◌else◌, ◌==◌, Some, None, Option, sym, refl, ◌∙◌, subst, inl, inr, arith, Held, UnitState, is_declared, is_action, Action, Clause, view_in, Scope, Item, Registration, IsSo, Possibilities, one_registration, number_in, purpose_of_preempt, Place, Purpose, Adds, adds_both, same_reservation, Onlooker, purpose_for, StandingLeads, PlaceLeads, IsWatched, MOST_KEYS}
 use Rattle.pr_unit.specs.declared.demand.Demand.TheVariants.{Register, PreemptAll, Preempt}
 use Rattle.pr_roles.specs.declared.role.Action.TheVariants as action
 use Rattle.pr_regions.specs.declared.purpose.Standing.{Standing}

@@ -1,8 +1,8 @@
 -- The reach of each clause, and what is possible within it.
-use Rattle.pr_interference.proofs.Common.{◌≡◌, ℕ, zero, suc, ◌<◌, ◌≤◌, Bool, true, false, not, ◌&&◌, ◌||◌, ◌≢◌, ◌⊎◌, List, length, if◌then◌else◌, ◌==◌, slice_index_or, bit_or, Some, None, Option, sym, refl, ap, ◌∙◌, subst, inl, inr, arith, false≢true, and_parts, eqb_tells, nat_tests, has_wide, has, BitSet, MOST_NEXUSES, Kind, is_kind, is_told_of_loss, is_held_by_all, key_of, is_registered, kind_of, new_reservation, IsKey, Held, One, UnitState, is_action, names, holds, Action, Clause, has_at, view_in, Scope, number_of, Item, Registration, Reservation, Attentions, IsSo, IsPossible, Shows, Possibilities, one_registration, one_attentions, number_in, purpose_of_preempt, Place, Purpose, Allows, Adds, same_reservation, few_keys, Onlooker, Reach, purpose_for, PlaceLeads, FirstLeads, IsWatched, IsOnlooking, ClauseLeaves, ATTENTION_SETS, MOST_KEYS, or_left}
+use Rattle.pr_interference.proofs.Common.{◌≡◌, ℕ, zero, suc, ◌<◌, ◌≤◌, Bool, true, false, not, ◌&&◌, ◌||◌, ◌≢◌, ◌⊎◌, List, length, if◌then◌else◌, ◌==◌, bit_or, Some, None, Option, sym, refl, ap, ◌∙◌, subst, inl, inr, arith, false≢true, and_parts, eqb_tells, nat_tests, has_wide, has, BitSet, MOST_NEXUSES, Kind, is_kind, is_told_of_loss, is_held_by_all, key_of, is_registered, kind_of, new_reservation, IsKey, Held, One, UnitState, is_action, names, holds, Action, Clause, has_at, view_in, Scope, number_of, Item, Registration, Reservation, Attentions, IsSo, IsPossible, Shows, Possibilities, one_registration, one_attentions, number_in, purpose_of_preempt, Place, Purpose, Allows, Adds, same_reservation, few_keys, Onlooker, Reach, purpose_for, PlaceLeads, FirstLeads, IsWatched, IsOnlooking, ClauseLeaves, ATTENTION_SETS, MOST_KEYS, or_left}
 use Rattle.pr_unit.specs.declared.demand.Demand.TheVariants.{Register, Unregister, Reserve, Release, Clear, PreemptAll, Preempt}
 use Rattle.std.specs.List.{All as Each}
-use Rattle.std.proofs.lemmas.Bool.{cases_lt, or_right}
+use Rattle.std.proofs.lemmas.Bool.{or_right}
 use Rattle.std.proofs.lemmas.Option.{same_Some, slice_get_within, get_or_from_slice_get}
 use Rattle.std.specs.Prelude.{get_or}
 use Rattle.std.proofs.Common.{option_map}
@@ -17,7 +17,6 @@ use Rattle.pr_roles.specs.declared.role.Condition.TheVariants as condition
 use Rattle.pr_roles.specs.Keys.{key_at}
 use Rattle.pr_views.specs.Views.{IsSeen}
 use Rattle.pr_views.proofs.lemmas.Possibilities.Numbers.{once_of, same_registration}
-use Rattle.pr_views.proofs.lemmas.Rooms.Places.{holds_at-get_or, holds_at_past}
 use Rattle.pr_regions.proofs.lemmas.Showing.Numbers.{AreDistinct}
 use Rattle.pr_regions.proofs.lemmas.Purposes.Conduct.{key_named, after_for, change_for, fault_for, keyed, IsNamed, asked}
 use Rattle.pr_regions.proofs.lemmas.Regions.ChangedStates.{then_in}
@@ -310,20 +309,7 @@ adds_most s o clause old answer most n count shown is has adds = record { kept =
 
 -- ---- what a list of words has at a place
 
-pub has_there : (words : List BitSet) (g r : ℕ) (d : BitSet) → has_at words g r ≡ true → has (slice_index_or words g d) r ≡ true
-has_there words g r d is = at (cases_lt g (length words))
-  where
-    at : (g < length words) ⊎ (length words ≤ g) → has (slice_index_or words g d) r ≡ true
-    at (inl small) = sym (holds_at-get_or (λ w. has w r) words g d small) ∙ is
-    at (inr past) = absurd (false≢true (sym (holds_at_past (λ w. has w r) words g past) ∙ is))
-
 -- ---- the attentions that are told
 
 abbrev pub Marks : BitSet → BitSet → BitSet → ℕ → BitSet → Type 0
 Marks owners told pending mark result = (r q : ℕ) → has owners r ≡ true → has told r ≡ true → has pending q ≡ true → q < ATTENTION_SETS → has result (bit_or q mark) ≡ true
-
-pub told_among : (reach : Reach) (owners pending answer : BitSet) (r q n : ℕ) → Marks owners reach.told_03 pending 2 answer → Marks owners reach.told_04 pending 4 answer → Marks owners reach.told_05 pending 8 answer
-    → has owners r ≡ true → has pending q ≡ true → q < ATTENTION_SETS → IsTold reach r q n → has answer n ≡ true
-told_among reach owners pending answer r q n first second third owns pends small (inl tells) = subst (λ m. has answer m ≡ true) (sym tells.1) (first r q owns tells.0 pends small)
-told_among reach owners pending answer r q n first second third owns pends small (inr (inl tells)) = subst (λ m. has answer m ≡ true) (sym tells.1) (second r q owns tells.0 pends small)
-told_among reach owners pending answer r q n first second third owns pends small (inr (inr tells)) = subst (λ m. has answer m ≡ true) (sym tells.1) (third r q owns tells.0 pends small)

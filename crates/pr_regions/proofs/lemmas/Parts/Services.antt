@@ -120,14 +120,6 @@ release_others hosts t held v sender standing change is other does room = record
   fits = room;
 }
 
-pub release_fault_ends : (hosts : ℕ) (t : Kind) (held : Option Held) (v : Held) (sender : ℕ) (standing : Standing) → held ≡ Some v → holds v sender standing ≡ true → is_kind (kind_of v) t ≡ false
-    → AlwaysEnds hosts (Release t) held sender standing (Fault (illegal INVALID_FIELD_IN_PARAMETER_LIST INVALID_RELEASE_OF_PERSISTENT_RESERVATION))
-release_fault_ends hosts t held v sender standing is holder other = record {
-  ends = λ s u c alike m. fault_ends s (Release t) held sender standing u c (illegal INVALID_FIELD_IN_PARAMETER_LIST INVALID_RELEASE_OF_PERSISTENT_RESERVATION) tt m refl
-      (release_faults s t held v sender standing u c m is ∙ (λ i. if holder i && not (other i) then Some (illegal INVALID_FIELD_IN_PARAMETER_LIST INVALID_RELEASE_OF_PERSISTENT_RESERVATION) else None));
-  fits = tt;
-}
-
 pub release_good : (hosts : ℕ) (t : Kind) (held : Option Held) (v : Held) (sender : ℕ) (standing : Standing) (change : Transition) → held ≡ Some v → holds v sender standing ≡ true → is_kind (kind_of v) t ≡ true
     → Does change None never 0 (tells_of_loss (told_if (is_for_registrants (kind_of v)))) → HasRoom hosts (Good change) → AlwaysEnds hosts (Release t) held sender standing (Good change)
 release_good hosts t held v sender standing change is holder same does room = record {

@@ -1,10 +1,9 @@
 -- What each purpose does in a state, whichever command asks for it.
-use Rattle.pr_regions.proofs.Common.{◌≡◌, ℕ, suc, ◌+◌, ◌<◌, ◌≤◌, Bool, true, false, cond, not, ◌&&◌, ◌||◌, List, [], ◌∷◌, length, get_or, nat_lt, ◌==◌, Some, None, Option, unwrap_or, sym, refl, ap, ◌∙◌, subst, arith, position, list_any, false≢true, nat_tests, Command, Kind, Sense, State, key_of, key_at, HasNumber, number_in, Purpose, option_map_or, is_declared}
+use Rattle.pr_regions.proofs.Common.{◌≡◌, ℕ, suc, ◌+◌, ◌<◌, ◌≤◌, Bool, true, false, cond, not, ◌||◌, List, [], ◌∷◌, length, get_or, nat_lt, ◌==◌, Some, None, Option, unwrap_or, sym, refl, ap, ◌∙◌, subst, arith, position, list_any, false≢true, nat_tests, Command, Kind, Sense, State, key_of, key_at, HasNumber, number_in, Purpose, option_map_or, is_declared}
 use Rattle.pr_unit.specs.declared.demand.Demand.TheVariants.{Read, Write, Look, Register, Unregister, Reserve, Release, Clear, PreemptAll, Preempt}
 use Rattle.std.specs.List.{position_or_len, slice_get}
 use Rattle.std.proofs.lemmas.List.Quantifiers.{position-Some}
 use Rattle.std.proofs.lemmas.Option.{slice_get-get_or}
-use Rattle.pr_script.specs.Grammar.{is_written_key}
 use Rattle.pr_registry.specs.declared.change.Change.{Change}
 use Rattle.pr_unit.specs.Demands.{Asked, demand_of, is_refused}
 use Rattle.pr_unit.specs.Conduct.{conduct, command_conflicts, command_fault}

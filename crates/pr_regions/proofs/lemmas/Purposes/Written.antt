@@ -1,10 +1,10 @@
 -- What a text can write has a purpose, and names declared keys alone.
-use Rattle.pr_regions.proofs.Common.{◌≡◌, ℕ, Bool, true, ◌||◌, List, is_some, if◌then◌else◌, IsTrue, ◌==◌, Some, None, Option, refl, false, false≢true, Command, Kind, option_map_or, and_parts, is_declared}
+use Rattle.pr_regions.proofs.Common.{◌≡◌, ℕ, Bool, true, ◌||◌, List, is_some, if◌then◌else◌, IsTrue, ◌==◌, Some, Option, refl, false, Command, Kind, option_map_or, and_parts, is_declared}
 use Rattle.pr_unit.specs.declared.demand.Demand.TheVariants.{Register, Unregister, PreemptAll, Preempt}
 use Rattle.pr_cdb.specs.declared.command.Command.TheVariants as command
 use Rattle.pr_unit.specs.Demands.{named}
 use Rattle.pr_script.specs.Grammar.{is_written_key, is_written}
-use Rattle.pr_regions.specs.Purposes.{numbered, purpose_of, names_declared}
+use Rattle.pr_regions.specs.Purposes.{numbered, names_declared}
 
 -- ---- a purpose
 
@@ -15,15 +15,6 @@ registers_typed keys sark false = refl
 preempts_typed : (keys : List ℕ) (sark : ℕ) (t : Kind) (zero : Bool) → IsTrue (is_some (numbered keys (if zero then PreemptAll (Some t) else Preempt sark (Some t))))
 preempts_typed keys sark t true = refl
 preempts_typed keys sark t false = refl
-
-pub written_typed : (keys : List ℕ) (c : Command) → is_written keys c ≡ true → IsTrue (is_some (purpose_of keys c))
-written_typed keys (command.Register rk sark) is = registers_typed keys sark (sark == 0)
-written_typed keys (command.RegisterIgnore sark) is = registers_typed keys sark (sark == 0)
-written_typed keys (command.Preempt rk sark (Some t)) is = preempts_typed keys sark t (sark == 0)
-written_typed keys (command.PreemptAbort rk sark (Some t)) is = preempts_typed keys sark t (sark == 0)
-written_typed keys (command.Preempt rk sark None) is = absurd (false≢true (and_parts _ _ (and_parts (is_written_key keys rk) _ is).1).1)
-written_typed keys (command.PreemptAbort rk sark None) is = absurd (false≢true (and_parts _ _ (and_parts (is_written_key keys rk) _ is).1).1)
-written_typed keys _ is = refl
 
 -- ---- declared keys
 

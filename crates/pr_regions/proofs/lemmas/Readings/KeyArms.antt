@@ -1,5 +1,5 @@
 -- Which arm takes the data of READ KEYS, one arm after another.
-use Rattle.pr_regions.proofs.Common.{◌≡◌, ℕ, ◌+◌, ◌<◌, ◌≤◌, Bool, true, false, cond, not, ◌&&◌, ◌≢◌, ◌⊎◌, List, [], ◌∷◌, ◌++◌, length, get_or, if◌then◌else◌, nat_lt, ◌==◌, Some, None, Option, sym, refl, ap, ◌∙◌, subst, inl, inr, arith, position, not-true, has, BitSet, Command, Held, UnitState, matches, HasSomebody, Scope, IsScope, Registration, IsSo, IsInRegion, any, only, IsKnown, answer, MOST_KEYS, get_or_default, Contains, and_parts, One, Region, filter_of, HasThose}
+use Rattle.pr_regions.proofs.Common.{◌≡◌, ℕ, ◌+◌, ◌<◌, ◌≤◌, Bool, true, false, cond, not, ◌&&◌, ◌≢◌, ◌⊎◌, List, [], ◌∷◌, ◌++◌, length, get_or, if◌then◌else◌, nat_lt, ◌==◌, Some, None, Option, sym, refl, ap, ◌∙◌, subst, inl, inr, arith, position, not-true, has, BitSet, Command, Held, UnitState, matches, HasSomebody, Scope, IsScope, Registration, IsSo, IsInRegion, only, IsKnown, answer, MOST_KEYS, get_or_default, Contains, and_parts, One, Region, filter_of, HasThose}
 use Rattle.std.proofs.Common.{below_more}
 use Rattle.std.proofs.lemmas.Bool.{lt-ltb, le-ltb}
 use Rattle.std.proofs.lemmas.List.Sums.{position_or_len_is}
@@ -69,14 +69,6 @@ of_word s u sender j w few those there = let known = there.3.1 in (there.0, ther
 -- the element at i, whatever stands for those that are not there
 element : (tests : List Test) (i : ℕ) (t d : Test) → i < length tests → t ≡ get_or tests i t → get_or tests i d ≡ t
 element tests i t d small is = get_or_default tests i d t small ∙ sym is
-
-pub so_far_start : (keys : List ℕ) (hosts : ℕ) (held : Option Held) (sender own : ℕ) (c : Command) (tests : List Test) (left : BitSet) → HasThose left any
-    → AreReadSoFar keys hosts held sender own c tests 0 [] left
-so_far_start keys hosts held sender own c tests left those = record {
-  covered = λ s u known. let few = few_keys s.keys known.scope.keys in inr (in_open s u sender left (λ g r apart so. let small = so.1 in those r (omega arith)));
-  right = λ s u b known there inside. let none = there.1 in absurd (omega arith);
-  fails = λ s u known inside k d none. absurd (omega arith);
-}
 
 pub so_far_skip : (keys : List ℕ) (hosts : ℕ) (held : Option Held) (sender own : ℕ) (c : Command) (tests : List Test) (i : ℕ) (readings : List Reading) (left : BitSet) (t : Test)
     → AreReadSoFar keys hosts held sender own c tests i readings left → i < length tests → t ≡ get_or tests i t → IsAsked keys hosts held sender own c t Never

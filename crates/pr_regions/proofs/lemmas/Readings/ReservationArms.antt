@@ -1,5 +1,5 @@
 -- Which arm takes the data of READ RESERVATION.
-use Rattle.pr_regions.proofs.Common.{◌≡◌, ℕ, zero, suc, ◌+◌, ◌<◌, ◌≤◌, Bool, true, false, cond, not, ◌≢◌, ◌⊎◌, List, [], ◌∷◌, ◌++◌, length, get_or, is_some, is_none, if◌then◌else◌, IsTrue, nat_lt, ◌==◌, Some, None, Option, option_map, unwrap_or, sym, refl, ap, ◌∙◌, subst, inl, inr, arith, lit<, position, false≢true, nat_tests, eqb_tells, Command, Kind, is_key, State, key_of, Held, UnitState, matches, WRITTEN_LENGTH, Scope, key_at, Registration, IsSo, IsInRegion, any, only, is_of_registrant, Leaves, IsKnown, answer, eq-eqb, Contains, One, HasHolder, one_registration}
+use Rattle.pr_regions.proofs.Common.{◌≡◌, ℕ, zero, suc, ◌+◌, ◌<◌, ◌≤◌, Bool, true, false, cond, not, ◌≢◌, ◌⊎◌, List, [], ◌∷◌, ◌++◌, length, get_or, is_some, is_none, if◌then◌else◌, IsTrue, nat_lt, ◌==◌, Some, None, Option, option_map, unwrap_or, sym, refl, ap, ◌∙◌, subst, inl, inr, arith, lit<, position, false≢true, nat_tests, eqb_tells, Kind, is_key, State, key_of, Held, UnitState, matches, WRITTEN_LENGTH, Scope, key_at, Registration, IsSo, IsInRegion, any, only, is_of_registrant, Leaves, IsKnown, answer, eq-eqb, Contains, One, HasHolder, one_registration}
 use Rattle.std.specs.List.{All, prefix_len}
 use Rattle.std.proofs.lemmas.Option.{slice_get-get_or}
 use Rattle.std.proofs.lemmas.List.Elements.{Contains-push, Contains-push_cases, Contains-append_left}
@@ -151,12 +151,6 @@ holder_in_region keys hosts kind h sender own s u n known so g r apart at_g =
         let number : r ≡ n = one_registration s u h r n known.scope (subst (λ x. IsSo s u (Registration x r)) same at_g) so in
         ap (λ b. if b then only n r else any r) is ∙ ap (only n) number ∙ eq-eqb n n refl
     by_place false is = ap (λ b. if b then only n r else any r) is
-
-pub held_start : (keys : List ℕ) (hosts : ℕ) (kind : Kind) (h sender own : ℕ) (c : Command) (tests : List Test) → AreHeldSoFar keys hosts kind h sender own c tests 0 []
-held_start keys hosts kind h sender own c tests = record {
-  covered = λ s u n known so some none. absurd (omega arith);
-  right = λ s u b known there inside. let none = there.1 in absurd (omega arith);
-}
 
 -- the arm of a state in which the holder has the key at i
 held_arm : (keys : List ℕ) (hosts : ℕ) (kind : Kind) (h sender own : ℕ) (tests : List Test) (i key : ℕ) (s : Scope) (u : UnitState) → Fit keys tests → i < length keys → key ≡ get_or keys i key

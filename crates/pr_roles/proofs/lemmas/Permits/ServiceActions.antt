@@ -1,5 +1,5 @@
 -- A command only looks, or is a service action, which a clause has to permit.
-use Rattle.pr_roles.proofs.Common.{◌≡◌, ℕ, Bool, true, false, ◌⊎◌, ◌==◌, refl, ap, inl, inr, IsTrue, not, ◌||◌, Command}
+use Rattle.pr_roles.proofs.Common.{◌≡◌, Bool, true, false, ◌⊎◌, ◌==◌, refl, ap, inl, inr, IsTrue, not, ◌||◌, Command}
 use Rattle.std.proofs.lemmas.Bool.{eqb-true}
 use Rattle.pr_cdb.specs.declared.codes.TheConstants.{TEST_UNIT_READY, REQUEST_SENSE, PERSISTENT_RESERVE_IN, PERSISTENT_RESERVE_OUT}
 use Rattle.pr_cdb.specs.declared.wire.Request.TheVariants.{Plain}

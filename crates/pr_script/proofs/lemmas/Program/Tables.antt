@@ -1,5 +1,5 @@
 -- How a table grows by rows.
-use Rattle.pr_script.proofs.Common.{◌≡◌, ℕ, suc, ◌+◌, ◌-◌, ◌<◌, ◌≤◌, List, [], ◌∷◌, ◌++◌, length, get_or, take, drop, Vec, Global, sym, refl, ap, ◌∙◌, subst, inl, inr, arith, Command, depth_of_all, Stmt, sends, repeats, Stmts, none, more, Arms, no_arm, arm, before, statement_of, statements_in, script_of, MOST_OPEN, Instruction, Operation, Arm, Statement, arms_in, IsCompiled, AreArmsCompiled, place, step_at, IsStep, IsTable, configuration, deepest, IsPlaced, meanings}
+use Rattle.pr_script.proofs.Common.{◌≡◌, ℕ, suc, ◌+◌, ◌-◌, ◌<◌, ◌≤◌, List, [], ◌∷◌, ◌++◌, length, get_or, take, drop, Vec, Global, sym, refl, ap, ◌∙◌, subst, inl, inr, arith, Command, depth_of_all, Stmt, sends, repeats, Stmts, none, more, Arms, arm, before, statement_of, statements_in, script_of, MOST_OPEN, Instruction, Operation, Arm, Statement, arms_in, IsCompiled, AreArmsCompiled, place, step_at, IsStep, IsTable, configuration, deepest, IsPlaced, meanings}
 use Rattle.std.proofs.Common.{add-one, drop-cons, one-add}
 use Rattle.std.proofs.lemmas.List.{length-append}
 use Rattle.std.proofs.Math.ListN.{get_or-append}
@@ -122,13 +122,6 @@ grows_on old mid new first then = record {
   keeps = λ k within. then.keeps k (omega (arith, first.longer)) ∙ first.keeps k within;
 }
 
-pub laid_nothing : (rows : List Instruction) (next : ℕ) → IsTable rows → next ≤ length rows → IsCompiled rows rows none next next
-laid_nothing rows next table within = record {
-  grows = record { table = table; longer = omega arith; keeps = λ k _. refl };
-  within = within;
-  meaning = refl;
-}
-
 -- one statement more, before those that are laid
 pub laid_more : (old mid rows : List Instruction) (xs : List Statement) (i next at : ℕ) (x : Statement) (step : Operation) → i < length xs → x ≡ get_or xs i x
     → IsCompiled old mid (statements_in (drop (i + 1) xs)) next at
@@ -160,13 +153,6 @@ arms_at-append : (ms : List Stmts) (next : ℕ) (js : List ArmTarget) (j : ArmTa
     → arms_at ms next (js ++ j ∷ []) ≡ with_last_arm (arms_at ms next js) j.test (without_end (place ms j.place) (place ms next))
 arms_at-append ms next [] j = refl
 arms_at-append ms next (i ∷ js) j = ap (arm i.test (without_end (place ms i.place) (place ms next))) (arms_at-append ms next js j)
-
-pub no_arms_laid : (rows : List Instruction) (next : ℕ) → IsTable rows → AreArmsCompiled rows rows no_arm next []
-no_arms_laid rows next table = record {
-  grows = record { table = table; longer = omega arith; keeps = λ k _. refl };
-  within = tt;
-  meaning = refl;
-}
 
 pub arms_laid_more : (old mid new : List Instruction) (xs : List Arm) (i next first : ℕ) (x : Arm) (js : List ArmTarget) → next ≤ length old
     → i < length xs → x ≡ get_or xs i x

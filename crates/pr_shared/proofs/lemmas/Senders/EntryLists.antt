@@ -1,9 +1,7 @@
 -- A list compared, entry by entry, with what a function finds in the items of a history.
-use Rattle.std.proofs.Common.{◌≡◌, ℕ, suc, ◌+◌, ◌-◌, ◌<◌, ◌≤◌, ◌==◌, Bool, IsTrue, List, [], ◌∷◌, ◌++◌, length, take, drop, get_or, Option, Some, None, sym, ap, ◌∙◌, arith, length-append}
-use Rattle.std.specs.Prelude.{◌↔◌}
+use Rattle.std.proofs.Common.{◌≡◌, ℕ, suc, ◌+◌, ◌-◌, ◌<◌, ◌≤◌, List, [], ◌∷◌, ◌++◌, length, take, drop, get_or, Option, Some, None, sym, ap, ◌∙◌, arith, length-append}
 use Rattle.std.specs.List.{filter_map, cons_option}
 use Rattle.std.proofs.Math.Seq.{drop-cons}
-use Rattle.std.proofs.lemmas.Bool.Decides.{nat_tests}
 use Rattle.std.proofs.lemmas.List.{append-nil, get_or-append_right, length-take-le, take-append-drop, take_all, take_more}
 use Rattle.std.proofs.lemmas.List.Elements.{filter_map-append}
 
@@ -58,19 +56,3 @@ another_next f xs mine i n x e y there at is within next before all =
     sym (next ∙ (ap (λ ys. get_or ys n y) split ∙ (here ∙ ap (λ k. get_or (e ∷ rest) k y) none)))
 
 -- ---- at the end of the history
-
-pub all_passed : {X Y : Type 0} (f : X → Option Y) (xs : List X) (mine : List Y) (i n : ℕ) (b : Bool) → length xs ≤ i → n ≤ length mine → b ≡ (n == length mine) → filter_map f (take i xs) ≡ take n mine
-    → IsTrue b ↔ (filter_map f xs ≡ mine)
-all_passed f xs mine i n b past within is before = (
-  λ yes.
-      let all : n ≡ length mine = grind (arith, nat_tests) in
-      let most : length mine ≤ n = omega arith in
-      whole ∙ take_all n mine most,
-  λ same.
-      let long : length (take n mine) ≡ n = length-take-le n mine within in
-      let all : n ≡ length mine = sym long ∙ ap length (sym whole ∙ same) in
-      grind (arith, nat_tests),
-)
-  where
-    whole : filter_map f xs ≡ take n mine
-    whole = ap (filter_map f) (sym (take_all i xs past)) ∙ before

@@ -40,9 +40,6 @@ module _ (xs : List Statement) (i : ℕ) (x : Statement) (within : i < length xs
       ∙ rows_text-append row (rows_of row onto past s) (rows_of_all (row + row_count s) next past rest)
       ∙ ap (λ n. rows_text row (rows_of row onto past s) ++ rows_text (row + n) (rows_of_all (row + row_count s) next past rest)) (length-rows_of row onto past s)
 
-pub text_over : (xs : List Statement) (i row next past : ℕ) → length xs ≤ i → rows_text row (rows_of_all row next past (statements_in (drop i xs))) ≡ []
-text_over xs i row next past over = ap (λ ys. rows_text row (rows_of_all row next past (statements_in ys))) (drop_of_length-le xs {i = i} over)
-
 -- ---- arms
 
 module _ (xs : List Arm) (i : ℕ) (x : Arm) (within : i < length xs) (is : x ≡ get_or xs i x) where
@@ -64,9 +61,6 @@ module _ (xs : List Arm) (i : ℕ) (x : Arm) (within : i < length xs) (is : x �
   pub lines_from : (row next : ℕ) → flat_map arm_line (arm_rows row next (arms_in (drop i xs)))
       ≡ arm_line (x.test, first_row row next (script_of x.body)) ++ flat_map arm_line (arm_rows (row + row_count_of_all (script_of x.body)) next (arms_in (drop (i + 1) xs)))
   lines_from row next = ap (λ a. flat_map arm_line (arm_rows row next a)) arms_from
-
-pub bodies_over : (xs : List Arm) (i row next past : ℕ) → length xs ≤ i → rows_text row (rows_of_arms row next past (arms_in (drop i xs))) ≡ []
-bodies_over xs i row next past over = ap (λ ys. rows_text row (rows_of_arms row next past (arms_in ys))) (drop_of_length-le xs {i = i} over)
 
 pub lines_over : (xs : List Arm) (i row next : ℕ) → length xs ≤ i → flat_map arm_line (arm_rows row next (arms_in (drop i xs))) ≡ []
 lines_over xs i row next over = ap (λ ys. flat_map arm_line (arm_rows row next (arms_in ys))) (drop_of_length-le xs {i = i} over)

@@ -1,17 +1,9 @@
 -- How many bytes are taken in several steps.
-use Rattle.pr_trace.proofs.Common.{◌≡◌, ℕ, ◌+◌, ◌≤◌, List, [], ◌++◌, length, drop, Option, ap, subst, arith, length-append, length-drop, Keeps, bytes_of_lines, most_items, bytes_held, Takes, MOST_LATER_LINES}
-use Rattle.std.proofs.KnownBytes.{Consumes-nil, Consumes-trans, Consumes-kept}
+use Rattle.pr_trace.proofs.Common.{◌≡◌, ℕ, ◌+◌, ◌≤◌, List, [], ◌++◌, length, drop, Option, ap, subst, arith, length-append, length-drop, bytes_of_lines, most_items, bytes_held, Takes, MOST_LATER_LINES}
+use Rattle.std.proofs.KnownBytes.{Consumes-trans}
 use Rattle.pr_trace.specs.BytesTaken.{LosesUpTo, most_of_trace}
 use Rattle.pr_trace.specs.declared.ahead.TheConstants.{MOST_HELD}
 use Rattle.pr_trace.specs.declared.ahead.Ahead.{Ahead}
-
--- nothing is taken
-pub takes_none : (a : Option (List ℕ)) (n : ℕ) → Takes 0 a a n n
-takes_none a n = record { lost = []; taken = Consumes-nil a; counted = omega arith }
-
--- a call of the reader failed
-pub takes_kept : (a b : Option (List ℕ)) (n : ℕ) → Keeps a b → Takes 0 a b n n
-takes_kept a b n h = record { lost = []; taken = Consumes-kept a a b [] (Consumes-nil a) h; counted = omega arith }
 
 pub takes_both : {s t m n o : ℕ} {a b c : Option (List ℕ)} (u : ℕ) → Takes s a b m n → Takes t b c n o → s + t ≤ u → Takes u a c m o
 takes_both {s} {t} {m} {n} {o} {a} {b} {c} u h k l = record {

@@ -16,15 +16,6 @@ faults_same ReadFault r h = tt
 faults_same Memory r h = tt
 faults_same _ r h = h
 
--- this fault may come with any text
-pub faults_any : {A : Type 0} (e : TraceError) (known : Option (List ℕ)) (f : List ℕ → Result A TraceError) → e ≡ ReadFault → IfSome known (λ text. Faults e (f text))
-faults_any e None f h = tt
-faults_any e (Some text) f h = rw h tt
-
-pub faults_memory : {A : Type 0} (e : TraceError) (known : Option (List ℕ)) (f : List ℕ → Result A TraceError) → e ≡ Memory → IfSome known (λ text. Faults e (f text))
-faults_memory e None f h = tt
-faults_memory e (Some text) f h = rw h tt
-
 -- ---- what the front of a line shows
 
 -- what is read of a line depends on its front alone, where it is longer than a line may be

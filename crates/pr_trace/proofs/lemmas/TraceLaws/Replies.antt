@@ -4,7 +4,7 @@ use Rattle.std.specs.Prelude.{◌||◌, take, IsTrue, is_none}
 use Rattle.std.specs.FinMap as finmap
 use Rattle.std.specs.Int.{w32, w64, to_be_bytes}
 use Rattle.std.proofs.Common.{flat_map, le-leb}
-use Rattle.pr_cdb.specs.declared.codes.TheConstants.{NO_SENSE, NO_ADDITIONAL_SENSE_INFORMATION, REQUEST_SENSE, INQUIRY, PERSISTENT_RESERVE_IN, PERSISTENT_RESERVE_OUT, REPORT_LUNS, REPORT_CAPABILITIES, REGISTER_AND_IGNORE_EXISTING_KEY, DESC, INVALID_FIELD_IN_CDB, INVALID_FIELD_IN_PARAMETER_LIST, INVALID_RELEASE_OF_PERSISTENT_RESERVATION, LOGICAL_BLOCK_ADDRESS_OUT_OF_RANGE, FIXED_SENSE_LENGTH}
+use Rattle.pr_cdb.specs.declared.codes.TheConstants.{NO_SENSE, NO_ADDITIONAL_SENSE_INFORMATION, REQUEST_SENSE, INQUIRY, PERSISTENT_RESERVE_OUT, REPORT_LUNS, REGISTER_AND_IGNORE_EXISTING_KEY, DESC, INVALID_FIELD_IN_CDB, INVALID_FIELD_IN_PARAMETER_LIST, INVALID_RELEASE_OF_PERSISTENT_RESERVATION, LOGICAL_BLOCK_ADDRESS_OUT_OF_RANGE, FIXED_SENSE_LENGTH}
 use Rattle.pr_cdb.specs.declared.command.Kind.{Kind}
 use Rattle.pr_cdb.specs.declared.command.Command.TheVariants.{RequestSense, ReadKeys, ReadReservation, ReportCapabilities}
 use Rattle.pr_cdb.specs.declared.reply.Sense.{Sense}

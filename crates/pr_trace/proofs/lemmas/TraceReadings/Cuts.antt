@@ -15,10 +15,6 @@ missing_at n m e = grind (arith, nat_tests)
 pub none_passes : (p : ℕ → Bool) (xs : List ℕ) → length xs ≤ position_or_len p xs → All (λ x. p x ≡ false) xs
 none_passes p xs h k d below = fails_before_first p xs k d (omega arith)
 
--- the first place that passes is within the text
-pub place_within : (p : ℕ → Bool) (text : List ℕ) (i : ℕ) → position p text ≡ Some i → i < length text
-place_within p text i found = let at = found_at _ _ _ found in omega arith
-
 -- the first part ends at the first place that passes
 pub parts_first : (p : ℕ → Bool) (text : List ℕ) (i : ℕ) → position p text ≡ Some i → slice_split p text ≡ take i text ∷ slice_split p (drop (i + 1) text)
 parts_first p text i found =

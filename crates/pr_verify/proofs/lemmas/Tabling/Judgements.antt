@@ -1,5 +1,5 @@
 -- What is found of a host, by its budget and its table; and of one host after another.
-use Rattle.pr_verify.proofs.Common.{◌≡◌, ℕ, ◌+◌, ◌≤◌, true, false, List, map, length, IfErr, Some, None, Ok, Err, Option, Result, sym, refl, ap, ◌∙◌, subst, arith, cost_of_all, rise_above, Stmts, script_of, Task, Scripted, task, Scenario, IsSafe, IsLeastSound, Outline, HasOutline, OnScripted, HaveOutlines, SendsFit, places_of, IsScripted, Refusal, Spot, place_of, below_more}
+use Rattle.pr_verify.proofs.Common.{◌≡◌, ℕ, ◌+◌, ◌≤◌, true, false, List, map, length, IfErr, Some, None, Ok, Err, Option, Result, sym, refl, ap, ◌∙◌, subst, cost_of_all, rise_above, Stmts, script_of, Task, Scripted, task, Scenario, IsSafe, IsLeastSound, Outline, HasOutline, OnScripted, HaveOutlines, SendsFit, places_of, IsScripted, Refusal, Spot, place_of, below_more}
 use Rattle.std.specs.Option.{option_or, IfNone, IfSome}
 use Rattle.std.specs.Result.{OnOk, result_err}
 use Rattle.pr_roles.specs.Scenarios.{Planned}
@@ -47,10 +47,6 @@ module _ (s : Scenario) (h : ℕ) (script : Stmts) (budget : ℕ) (is : task s h
 -- ---- of one host after another
 
 module _ (s : Scenario) where
-  -- of none
-  pub judged_none : IsJudgementBefore s 0 None
-  judged_none = (λ h small. absurd (omega arith), λ h small. absurd (omega arith))
-
   -- of one more
   pub judged_next : (n : ℕ) (before here : Option Refusal) → IsJudgementBefore s n before → IsJudgement s n here → IsJudgementBefore s (n + 1) (option_or before here)
   judged_next n (Some refusal) here first also = first

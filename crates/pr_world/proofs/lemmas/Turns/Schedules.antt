@@ -1,6 +1,5 @@
 -- What one nexus does makes the turn of the schedule.
-use Rattle.pr_world.proofs.Common.{◌≡◌, ℕ, ◌<◌, Bool, true, false, List, [], ◌∷◌, ◌++◌, map, length, get_or, IsTrue, slice_get, slice_set, Some, None, vec_len, Option, option_map, sym, refl, ap, ◌∙◌, subst, append-nil, arith, option_map_or, get_or-map, map-set_same, length-map, map-set, slice_get-map, slice_get-get_or, Command, Reply, UnitState, Stmts, Standing, ready, stopped, how_now, Task, Scripted, Planned, role, task, Scenario, scenario_of, plan, next_of, is_passed_over, TurnAs, Turn, Control, Going, Trapped, Free, standing_of, control_after, control, is_trapped, Entry, How, Item, Sent, Parts, Clause, is_free, is_planned, ending, Participant, Participation, participation_of, schedule_by, HappensBy, StandsFor, does}
-use Rattle.std.proofs.Common.{Vec, Global}
+use Rattle.pr_world.proofs.Common.{◌≡◌, ℕ, ◌<◌, Bool, true, false, List, [], ◌∷◌, ◌++◌, map, length, get_or, IsTrue, slice_get, slice_set, Some, None, Option, option_map, sym, refl, ap, ◌∙◌, subst, append-nil, option_map_or, get_or-map, map-set_same, length-map, map-set, slice_get-map, slice_get-get_or, Command, Reply, UnitState, Stmts, Standing, ready, stopped, how_now, Task, Scripted, Planned, role, task, Scenario, scenario_of, plan, next_of, is_passed_over, TurnAs, Turn, Control, Going, Trapped, Free, standing_of, control_after, control, is_trapped, Entry, How, Item, Sent, Parts, Clause, is_free, is_planned, ending, Participant, Participation, participation_of, schedule_by, HappensBy, StandsFor, does}
 use Rattle.pr_roles.specs.declared.parts.Nexus.{Nexus as NexusPart}
 use Rattle.pr_roles.specs.Schedules as turn
 use Rattle.pr_roles.proofs.lemmas.Schedules.NextCommands.{schedule_same, plans_same, next_is, passes_by}
@@ -141,12 +140,6 @@ turn_made so wanted p q u v ps es fs h i e n x y stands there same at nexus part
     subst (λ j. IsTurned (scenario_of p) u ps es h wanted e v (slice_set ps j y) fs) (sym at)
     (subst (λ gs. IsTurned (scenario_of p) u ps es h wanted e v (slice_set ps h y) gs) (sym added)
     (turned wanted (scenario_of p) u v ps es h e x y stands there (sym (participation ∙ ap (λ j. get_or ps j x) at)) acting hosts))
-
-pub player_within : (s : Scenario) (u : UnitState) (ps : Vec Participant Global) (h i : ℕ) → StandsFor s u (map participation_of ps.items) → h < length s.nexuses → i ≡ h → i < vec_len ps
-player_within s u ps h i stands there at =
-    let participants = length-participants s u ps.items stands in
-    let len = ps.ok.0 in
-    omega arith
 
 pub nothing_added : (es : List Item) (e : Option Entry) → None ≡ e → es ≡ es ++ items_of e
 nothing_added es e none = sym (append-nil es) ∙ ap (λ o. es ++ items_of o) none

@@ -216,11 +216,6 @@ room_at s h = at s.nexuses h
     at (n ∷ ns) (suc h) = at ns h
     at _ _ = refl
 
-pub run_has_room : (s : Scenario) (steps : List Step) (y : Schedule) → IsSafe s → IsReached s steps y → length y.world.history ≤ rooms s
-run_has_room s steps y safe reached =
-    let few = all_have_room (map (λ n. room_of n.task) s.nexuses) y.world.history (λ h. omega (arith, room_at s h, sent_within s steps y safe reached h)) in
-    omega (arith, few, resets_within s steps y reached)
-
 pub next_has_room : (s : Scenario) (steps : List Step) (y : Schedule) (h : ℕ) → IsSafe s → IsReached s steps y → commands_by y.world.history h < room_by (task s h) → length y.world.history < rooms s
 next_has_room s steps y h safe reached less =
     let few = one_has_room (map (λ n. room_of n.task) s.nexuses) y.world.history h (λ g. omega (arith, room_at s g, sent_within s steps y safe reached g)) (omega (arith, room_at s h, less)) in
