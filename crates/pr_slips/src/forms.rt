@@ -92,8 +92,6 @@ pub fn missing_words(wanted: Wanted) -> &'static [u8] {
         Wanted::Command => b"The command is missing.\n",
         Wanted::Address => b"The address and the count are missing.\n",
         Wanted::Blocks => b"The count is missing.\n",
-        Wanted::Budget | Wanted::If | Wanted::Good | Wanted::Option | Wanted::Unsaid => b"",
-        Wanted::Direction | Wanted::ServiceAction | Wanted::OtherDirection => b"",
-        Wanted::NoParameter | Wanted::Type | Wanted::End => b"",
+        _ => b"",
     }
 }
