@@ -1,11 +1,9 @@
 //! Which send or repeat has no `done`, by how far its lines are indented.
 
+use crate::declared::MOST_LINES;
 use arrayvec::ArrayVec;
 use pr_lines::next_line;
 use pr_slips::{word_at, words_in};
-
-/// The most lines that are looked at: as many as a text has bytes.
-const MOST_LINES: u32 = 65_537;
 
 /// A line that is open, and how far it is indented.
 #[derive(Clone, Copy, Default)]
@@ -14,11 +12,11 @@ struct Indented {
     indent: usize,
 }
 
-/// The line of the first send or repeat above the line of this number which a `done` closes that is indented as one outside it.
-pub fn unclosed_by_indent(text: &[u8], number: u32) -> Option<u32> {
+/// The line of the first send or repeat of the text which a `done` closes that is indented as one outside it.
+pub fn unclosed_by_indent(text: &[u8]) -> Option<u32> {
     let mut open: ArrayVec<Indented, 16> = ArrayVec::new();
     let mut rest = text;
-    for line in 1..number.min(MOST_LINES) {
+    for line in 1..MOST_LINES {
         let (bytes, others) = next_line(rest)?;
         let words = words_in(bytes);
         let indent = words.first().map_or(0, |word| word.first);

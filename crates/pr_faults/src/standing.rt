@@ -2,14 +2,11 @@
 
 use crate::indents::unclosed_by_indent;
 use pr_lines::{Keyword, Misfit, Wanted, keyword_of};
-use pr_output::{WriteFault, put};
-use pr_slips::{
-    Correction, Placed, Told, edits, put_corrected, put_word_carets, tell_misfit, tell_no_line,
-    word_at, words_in,
-};
+use pr_output::{Token, WriteFault, put};
+use pr_slips::{Placed, Told, edits, tell_misfit, tell_no_line, word_at};
 use pr_text::{Above, Block, Diagnosis, Section};
-use pr_words::saying::{Part, say};
-use pr_words::{line_in, put_source_line, saying};
+use pr_words::put_source_line;
+use pr_words::saying::put_filled;
 use std::io::Write;
 
 /// Why a line may not stand where it stands.
@@ -18,8 +15,8 @@ enum Reason {
     /// One sentence says it.
     Said(&'static [u8]),
 
-    /// Another line makes it so, which stands between these words.
-    Line(&'static [u8], u32, &'static [u8]),
+    /// Another line makes it so, whose number stands in place of `{}`.
+    Line(&'static [u8], u32),
 
     /// The block is open.
     Unclosed(Block),
@@ -57,36 +54,28 @@ const NOT_UNDER: Reason = Reason::Said(
     b"The send of this arm is of another command: has stands below --read-keys, held and unheld below\n--read-reservation.\n",
 );
 
-/// Tells the line of this number, which has the form of none, or of one that may not stand there.
+/// Tells the line, which has the form of none, or of one that may not stand there.
 pub fn tell_syntax<W: Write>(
     writer: &mut W,
-    text: &[u8],
-    number: u32,
+    told: &Told<'_>,
     found: &Diagnosis,
 ) -> Result<(), WriteFault> {
-    let line = line_in(text, number).unwrap_or(b"");
-    let words = words_in(line);
-    put_source_line(writer, text, number)?;
-    let Some(first) = words.first() else {
+    told.put_line(writer)?;
+    let Some(first) = told.words.first() else {
         return put(writer, NO_VERSION);
     };
-    let told = Told {
-        number,
-        line,
-        words: &words,
-    };
     if found.above.section == Section::Top && first.text != b"fence".as_slice() {
-        put_word_carets(writer, number, line, *first)?;
+        told.put_carets(writer, *first)?;
         put(writer, NOT_FIRST)?;
         if edits(first.text, b"fence").is_some() {
-            return put_corrected(writer, line, Correction::of(*first, b"fence"));
+            return told.put_corrected(writer, *first, b"fence");
         }
-        return put(writer, kind_of_text(text, first.text));
+        return put(writer, kind_of_text(told.text, first.text));
     }
     match reason_of(&found.above, told, found.misfit) {
         Some(reason) => {
-            put_word_carets(writer, number, line, *first)?;
-            tell_reason(writer, text, told, *first, reason)
+            told.put_carets(writer, *first)?;
+            tell_reason(writer, told, *first, reason)
         }
         None => tell_shape(writer, told, *first, &found.above, found.misfit),
     }
@@ -112,7 +101,7 @@ fn kind_of_text(text: &[u8], first: &[u8]) -> &'static [u8] {
 // Its words don't keep a shape.
 fn tell_shape<W: Write>(
     writer: &mut W,
-    told: Told<'_>,
+    told: &Told<'_>,
     first: Placed<'_>,
     above: &Above,
     misfit: Option<Misfit>,
@@ -128,8 +117,8 @@ fn tell_shape<W: Write>(
 }
 
 // Why the line may not stand there, if what stands above it shows that.
-fn reason_of(above: &Above, told: Told<'_>, misfit: Option<Misfit>) -> Option<Reason> {
-    let keyword = keyword_of(word_at(told.words, 0));
+fn reason_of(above: &Above, told: &Told<'_>, misfit: Option<Misfit>) -> Option<Reason> {
+    let keyword = keyword_of(word_at(&told.words, 0));
     match above.section {
         Section::Top => None,
         Section::Outside => reason_outside(above, keyword?, misfit),
@@ -141,9 +130,8 @@ fn reason_of(above: &Above, told: Told<'_>, misfit: Option<Misfit>) -> Option<Re
         Section::Plan(line) => match keyword? {
             Keyword::End => None,
             _ => Some(Reason::Line(
-                b"The plan of ",
+                b"The plan of line {} is open: each of its lines is a command, and end closes it.\n",
                 line,
-                b" is open: each of its lines is a command, and end closes it.",
             )),
         },
     }
@@ -163,10 +151,7 @@ fn reason_outside(above: &Above, keyword: Keyword, misfit: Option<Misfit>) -> Op
         Keyword::Break | Keyword::Stop | Keyword::End => Some(OUTSIDE),
         Keyword::Busy | Keyword::Full | Keyword::Resets if above.version < 2 => Some(VERSION),
         Keyword::Host if misfit.is_none() => Some(NO_SCRIPT),
-        Keyword::Fence | Keyword::Keys | Keyword::Host | Keyword::Guest | Keyword::Start => None,
-        Keyword::Pending | Keyword::Busy | Keyword::Full | Keyword::Reservation => None,
-        Keyword::Generation | Keyword::Resets | Keyword::Role | Keyword::Script => None,
-        Keyword::Plan => None,
+        _ => None,
     }
 }
 
@@ -174,7 +159,7 @@ fn reason_in_script(
     above: &Above,
     line: u32,
     keyword: Keyword,
-    told: Told<'_>,
+    told: &Told<'_>,
     misfit: Option<Misfit>,
 ) -> Option<Reason> {
     let innermost = above.innermost();
@@ -187,28 +172,18 @@ fn reason_in_script(
         Keyword::Done if above.is_bare => reason_of_statement(above, keyword),
         Keyword::Done => None,
         Keyword::End => innermost.map(Reason::Unclosed),
-        Keyword::Fence
-        | Keyword::Keys
-        | Keyword::Host
-        | Keyword::Guest
-        | Keyword::Start
-        | Keyword::Pending
-        | Keyword::Busy
-        | Keyword::Full
-        | Keyword::Reservation
-        | Keyword::Generation
-        | Keyword::Resets
-        | Keyword::Role
-        | Keyword::Script
-        | Keyword::Plan => match innermost {
+        _ => match innermost {
             Some(block) => Some(Reason::Unclosed(block)),
-            None => Some(Reason::Line(b"The script of ", line, b" is open, and end closes it.")),
+            None => Some(Reason::Line(
+                b"The script of line {} is open, and end closes it.\n",
+                line,
+            )),
         },
     }
 }
 
-fn reason_of_arm(above: &Above, told: Told<'_>, misfit: Option<Misfit>) -> Option<Reason> {
-    let test = word_at(told.words, 1);
+fn reason_of_arm(above: &Above, told: &Told<'_>, misfit: Option<Misfit>) -> Option<Reason> {
+    let test = word_at(&told.words, 1);
     match above.innermost() {
         None => Some(NO_SEND),
         Some(block) if block.is_repeat => Some(Reason::Unclosed(block)),
@@ -221,14 +196,12 @@ fn reason_of_arm(above: &Above, told: Told<'_>, misfit: Option<Misfit>) -> Optio
 fn reason_of_statement(above: &Above, keyword: Keyword) -> Option<Reason> {
     match above.innermost() {
         Some(block) if above.is_bare && !block.is_repeat => Some(Reason::Line(
-            b"The send of ",
+            b"The send of line {} has no arm yet: behind it stands on REPLY, or done. What is done after any\nreply stands behind done.\n",
             block.line,
-            b" has no arm yet: behind it stands on REPLY, or done. What is done after any\nreply stands behind done.",
         )),
         Some(block) if above.is_bare && is_leaving(keyword) => Some(Reason::Line(
-            b"The first statement of the repeat of ",
+            b"The first statement of the repeat of line {} is a send or a repeat.\n",
             block.line,
-            b" is a send or a repeat.",
         )),
         _ if keyword == Keyword::Break && !above.is_in_repeat() => Some(NO_REPEAT),
         Some(_) | None => None,
@@ -241,78 +214,52 @@ fn is_leaving(keyword: Keyword) -> bool {
 
 fn tell_reason<W: Write>(
     writer: &mut W,
-    text: &[u8],
-    told: Told<'_>,
+    told: &Told<'_>,
     first: Placed<'_>,
     reason: Reason,
 ) -> Result<(), WriteFault> {
     match reason {
         Reason::Said(sentence) => put(writer, sentence),
-        Reason::Line(before, line, after) => {
-            put_source_line(writer, text, line)?;
-            say(
-                writer,
-                &[
-                    Part::Text(before),
-                    Part::Text(b"line"),
-                    saying::number(u64::from(line)),
-                    Part::Text(after),
-                    Part::Text(b"\n"),
-                ],
-            )
+        Reason::Line(sentence, line) => {
+            put_source_line(writer, told.text, line)?;
+            put_filled(writer, sentence, &[Token::Number(u64::from(line))])
         }
         Reason::Unclosed(block) => {
-            tell_unclosed(
-                writer,
-                text,
-                told.number,
-                block,
-                b" is open, and done closes it first.",
-            )
+            let sentence = b"The {} of line {} is open, and done closes it first.\n";
+            tell_unclosed(writer, told.text, told.above, block, sentence)
         }
-        Reason::Unsent => {
-            put(writer, b"In a script a command stands behind send:\n")?;
-            put_corrected(writer, told.line, Correction::before(first.first, b"send "))
-        }
+        Reason::Unsent => told.put_meant(
+            writer,
+            b"In a script a command stands behind send:\n",
+            first.front(0),
+            b"send ",
+        ),
     }
 }
 
-/// Tells the block that is open above the line of this number, and by their indents the one whose `done` is missing.
+/// Tells the block that is open below these lines of the text, and by their indents the one whose `done` is missing.
 pub fn tell_unclosed<W: Write>(
     writer: &mut W,
     text: &[u8],
-    number: u32,
+    above: &[u8],
     block: Block,
-    why: &[u8],
+    sentence: &[u8],
 ) -> Result<(), WriteFault> {
-    let what: &[u8] = if block.is_repeat {
-        b"The repeat of "
+    let what = if block.is_repeat {
+        Token::Text(b"repeat")
     } else {
-        b"The send of "
+        Token::Text(b"send")
     };
     put_source_line(writer, text, block.line)?;
-    say(
+    let line = Token::Number(u64::from(block.line));
+    put_filled(writer, sentence, &[what, line])?;
+    let Some(line) = unclosed_by_indent(above) else {
+        return Ok(());
+    };
+    put_filled(
         writer,
-        &[
-            Part::Text(what),
-            Part::Text(b"line"),
-            saying::number(u64::from(block.line)),
-            Part::Text(why),
-            Part::Text(b"\n"),
-        ],
+        b"By the indents it is line {} that has no done:\n",
+        &[Token::Number(u64::from(line))],
     )?;
-    match unclosed_by_indent(text, number) {
-        Some(line) => {
-            say(
-                writer,
-                &[
-                    Part::Text(b"By the indents it is line"),
-                    saying::number(u64::from(line)),
-                    Part::Text(b" that has no done:\n"),
-                ],
-            )?;
-            put_source_line(writer, text, line)
-        }
-        None => Ok(()),
-    }
+    put_source_line(writer, text, line)
 }

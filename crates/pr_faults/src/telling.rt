@@ -4,11 +4,11 @@ use crate::declared::line_of;
 use crate::limits::limit_words;
 use crate::standing::{tell_syntax, tell_unclosed};
 use crate::unknown::{tell_repeated, tell_undeclared, tell_unknown};
-use pr_output::{WriteFault, put};
-use pr_slips::tell_not_ascii;
+use pr_output::{Token, WriteFault, put};
+use pr_slips::{Told, tell_not_ascii};
 use pr_text::{Above, Diagnosis, ReadError, Section};
-use pr_words::saying::{Part, say};
-use pr_words::{line_in, put_source_line, saying};
+use pr_words::put_source_line;
+use pr_words::saying::put_filled;
 use std::io::Write;
 
 /// Writes what a fault of this text means: its line, with carets where the word is known, and sentences. Where memory ran out
@@ -20,17 +20,17 @@ pub fn write_text_fault<W: Write>(
 ) -> Result<(), WriteFault> {
     match found.error {
         ReadError::TooLarge => put(writer, TOO_LARGE),
-        ReadError::NotAscii { line } => tell_not_ascii(writer, text, line),
-        ReadError::LineTooLong { line } => tell_too_long(writer, text, line),
-        ReadError::Syntax { line } => tell_syntax(writer, text, line, found),
-        ReadError::UnknownName { line } => tell_unknown(writer, text, line),
+        ReadError::NotAscii { line } => tell_not_ascii(writer, &Told::of(text, line)),
+        ReadError::LineTooLong { line } => tell_too_long(writer, &Told::of(text, line)),
+        ReadError::Syntax { line } => tell_syntax(writer, &Told::of(text, line), found),
+        ReadError::UnknownName { line } => tell_unknown(writer, &Told::of(text, line)),
         ReadError::Limit { which, line } => {
             put_source_line(writer, text, line)?;
             put(writer, limit_words(which))
         }
-        ReadError::UndeclaredKey { line } => tell_undeclared(writer, text, line),
-        ReadError::Repeated { line } => tell_repeated(writer, text, line),
-        ReadError::Unclosed { line } => tell_ended(writer, text, line, &found.above),
+        ReadError::UndeclaredKey { line } => tell_undeclared(writer, &Told::of(text, line)),
+        ReadError::Repeated { line } => tell_repeated(writer, &Told::of(text, line)),
+        ReadError::Unclosed { .. } => tell_ended(writer, text, &found.above),
         ReadError::ReadFault => put(writer, READ_FAULT),
         ReadError::Memory => Ok(()),
         ReadError::EmptyStart => tell_empty_start(writer, text),
@@ -49,55 +49,38 @@ const EMPTY_START: &[u8] =
 holder is registered, and where all registrants hold, somebody is. Who has no start line starts
 free.\n";
 
-fn tell_too_long<W: Write>(writer: &mut W, text: &[u8], number: u32) -> Result<(), WriteFault> {
-    let line = line_in(text, number).unwrap_or(b"");
-    say(
+fn tell_too_long<W: Write>(writer: &mut W, told: &Told<'_>) -> Result<(), WriteFault> {
+    let number = Token::Number(u64::from(told.number));
+    let length = Token::Number(told.line.len() as u64);
+    put_filled(
         writer,
-        &[
-            Part::Text(b"Line"),
-            saying::number(u64::from(number)),
-            Part::Text(b" has"),
-            saying::number(line.len() as u64),
-            Part::Text(b" bytes, and a line has 256 at most, in comments too.\n"),
-        ],
+        b"Line {} has {} bytes, and a line has 256 at most, in comments too.\n",
+        &[number, length],
     )
 }
 
 // The text ends, and this is open.
-fn tell_ended<W: Write>(
-    writer: &mut W,
-    text: &[u8],
-    number: u32,
-    above: &Above,
-) -> Result<(), WriteFault> {
+fn tell_ended<W: Write>(writer: &mut W, text: &[u8], above: &Above) -> Result<(), WriteFault> {
     if let Some(block) = above.innermost() {
-        tell_unclosed(
-            writer,
-            text,
-            number.saturating_add(1),
-            block,
-            b" has no done.",
-        )?;
+        let sentence = b"The {} of line {} has no done.\n";
+        tell_unclosed(writer, text, text, block, sentence)?;
     }
     let (what, line): (&[u8], u32) = match above.section {
-        Section::Script(line) => (b"The script of ", line),
-        Section::Plan(line) => (b"The plan of ", line),
+        Section::Script(line) => (b"script", line),
+        Section::Plan(line) => (b"plan", line),
         Section::Top | Section::Outside => return Ok(()),
     };
     put_source_line(writer, text, line)?;
-    say(
+    let line = Token::Number(u64::from(line));
+    put_filled(
         writer,
-        &[
-            Part::Text(what),
-            Part::Text(b"line"),
-            saying::number(u64::from(line)),
-            Part::Text(b" has no end.\n"),
-        ],
+        b"The {} of line {} has no end.\n",
+        &[Token::Text(what), line],
     )
 }
 
 fn tell_empty_start<W: Write>(writer: &mut W, text: &[u8]) -> Result<(), WriteFault> {
-    if let Some(line) = line_of(text, u32::MAX, b"reservation", None) {
+    if let Some(line) = line_of(text, b"reservation", None) {
         put_source_line(writer, text, line)?;
     }
     put(writer, EMPTY_START)

@@ -1,31 +1,29 @@
 //! Names and keys that are not declared, and what is said again.
 
-use crate::declared::{declaration, is_declared, keys_line, line_of, nearest_key, nearest_name};
+use crate::declared::{declaration, is_declared, line_of, nearest_key, nearest_name};
 use pr_lines::key_or_zero;
-use pr_output::{WriteFault, put};
-use pr_slips::{Placed, Words, option_key, put_word_carets, word_at, words_in};
-use pr_words::saying::{Part, say};
-use pr_words::{line_in, put_source_line, saying};
+use pr_output::{Token, WriteFault, put};
+use pr_slips::{Placed, Told, option_key, word_at};
+use pr_words::put_source_line;
+use pr_words::saying::put_filled;
 use std::io::Write;
 
-/// Tells the line of this number, which uses a name that no line above declares, or declares as one of the other kind.
-pub fn tell_unknown<W: Write>(writer: &mut W, text: &[u8], number: u32) -> Result<(), WriteFault> {
-    let line = line_in(text, number).unwrap_or(b"");
-    let words = words_in(line);
-    put_source_line(writer, text, number)?;
-    match unknown_name(text, number, &words) {
+/// Tells the line, which uses a name that no line above declares, or declares as one of the other kind.
+pub fn tell_unknown<W: Write>(writer: &mut W, told: &Told<'_>) -> Result<(), WriteFault> {
+    told.put_line(writer)?;
+    match unknown_name(told) {
         Some(name) => {
-            put_word_carets(writer, number, line, name)?;
-            tell_undeclared_name(writer, text, number, name.text)
+            told.put_carets(writer, name)?;
+            tell_undeclared_name(writer, told, name.text)
         }
-        None => tell_wrong_kind(writer, text, number, line, &words),
+        None => tell_wrong_kind(writer, told),
     }
 }
 
 // The first name on the line that no line above declares.
-fn unknown_name<'a>(text: &[u8], number: u32, words: &Words<'a>) -> Option<Placed<'a>> {
-    let is_reservation = word_at(words, 0) == b"reservation".as_slice();
-    for (place, word) in words.iter().enumerate() {
+fn unknown_name<'a>(told: &Told<'a>) -> Option<Placed<'a>> {
+    let is_reservation = word_at(&told.words, 0) == b"reservation".as_slice();
+    for (place, word) in told.words.iter().enumerate() {
         let name = if is_reservation {
             holder_in(*word)
         } else if place == 1 {
@@ -34,7 +32,7 @@ fn unknown_name<'a>(text: &[u8], number: u32, words: &Words<'a>) -> Option<Place
             None
         };
         if let Some(name) = name
-            && declaration(text, number, name.text).is_none()
+            && declaration(told.above, name.text).is_none()
         {
             return Some(name);
         }
@@ -45,105 +43,68 @@ fn unknown_name<'a>(text: &[u8], number: u32, words: &Words<'a>) -> Option<Place
 // The holder in the alternative of a reservation.
 fn holder_in(word: Placed<'_>) -> Option<Placed<'_>> {
     match word.text {
-        [_, b':', name @ ..] => Some(Placed {
-            text: name,
-            first: word.first.saturating_add(2),
-        }),
+        [_, b':', ..] => Some(word.back(2)),
         _ => None,
     }
 }
 
 fn tell_undeclared_name<W: Write>(
     writer: &mut W,
-    text: &[u8],
-    number: u32,
+    told: &Told<'_>,
     name: &[u8],
 ) -> Result<(), WriteFault> {
-    say(
+    put_filled(
         writer,
-        &[
-            Part::Text(b"No line above declares "),
-            Part::Text(name),
-            Part::Text(b".\n"),
-        ],
+        b"No line above declares {}.\n",
+        &[Token::Text(name)],
     )?;
-    if let Some(line) = declaration(text, u32::MAX, name) {
-        return say(
+    if let Some(line) = declaration(told.text, name) {
+        return put_filled(
             writer,
-            &[
-                Part::Text(b"It is declared further down, on line"),
-                saying::number(u64::from(line)),
-                Part::Text(b": a line that declares stands above those that use it.\n"),
-            ],
+            b"It is declared further down, on line {}: a line that declares stands above those that use it.\n",
+            &[Token::Number(u64::from(line))],
         );
     }
-    match nearest_name(text, number, name) {
-        Some(near) => say(
-            writer,
-            &[
-                Part::Text(b"The nearest name is "),
-                Part::Text(near.word),
-                Part::Text(b", of line"),
-                saying::number(u64::from(near.line)),
-                Part::Text(b".\n"),
-            ],
-        ),
-        None => put(writer, b"Declare it by a line host NAME or guest NAME.\n"),
-    }
-}
-
-// Each name on the line is declared: a guest has no script, or a host no plan.
-fn tell_wrong_kind<W: Write>(
-    writer: &mut W,
-    text: &[u8],
-    number: u32,
-    line: &[u8],
-    words: &Words<'_>,
-) -> Result<(), WriteFault> {
-    let name = word_at(words, 1);
-    if let Some(word) = words.get(1) {
-        put_word_carets(writer, number, line, *word)?;
-    }
-    let kind: &[u8] = if word_at(words, 0) == b"plan".as_slice() {
-        b" is a host: only a guest has a plan, and a host a script."
-    } else {
-        b" is a guest: only a host has a script, and a guest a plan."
+    let Some(near) = nearest_name(told.above, name) else {
+        return put(writer, b"Declare it by a line host NAME or guest NAME.\n");
     };
-    let declared = declaration(text, number, name).unwrap_or(0);
-    say(
+    let line = declaration(told.above, near).unwrap_or(0);
+    put_filled(
         writer,
-        &[
-            Part::Text(name),
-            Part::Text(b", of line"),
-            saying::number(u64::from(declared)),
-            Part::Text(b","),
-            Part::Text(kind),
-            Part::Text(b"\n"),
-        ],
+        b"The nearest name is {}, of line {}.\n",
+        &[Token::Text(near), Token::Number(u64::from(line))],
     )
 }
 
-/// Tells the line of this number, which uses a key that no line above declares.
-pub fn tell_undeclared<W: Write>(
-    writer: &mut W,
-    text: &[u8],
-    number: u32,
-) -> Result<(), WriteFault> {
-    let line = line_in(text, number).unwrap_or(b"");
-    put_source_line(writer, text, number)?;
-    let Some(key) = undeclared_key(text, number, &words_in(line)) else {
+// Each name on the line is declared: a guest has no script, or a host no plan.
+fn tell_wrong_kind<W: Write>(writer: &mut W, told: &Told<'_>) -> Result<(), WriteFault> {
+    if let Some(word) = told.words.get(1) {
+        told.put_carets(writer, *word)?;
+    }
+    let sentence: &[u8] = if word_at(&told.words, 0) == b"plan".as_slice() {
+        b"{}, of line {}, is a host: only a guest has a plan, and a host a script.\n"
+    } else {
+        b"{}, of line {}, is a guest: only a host has a script, and a guest a plan.\n"
+    };
+    let name = word_at(&told.words, 1);
+    let line = declaration(told.above, name).unwrap_or(0);
+    let line = Token::Number(u64::from(line));
+    put_filled(writer, sentence, &[Token::Text(name), line])
+}
+
+/// Tells the line, which uses a key that no line above declares.
+pub fn tell_undeclared<W: Write>(writer: &mut W, told: &Told<'_>) -> Result<(), WriteFault> {
+    told.put_line(writer)?;
+    let Some(key) = undeclared_key(told) else {
         return put(writer, b"A key on the line is not declared above.\n");
     };
-    put_word_carets(writer, number, line, key)?;
-    match keys_line(text, number) {
-        Some(declared) => tell_not_among(writer, text, number, declared, key.text),
-        None => say(
+    told.put_carets(writer, key)?;
+    match line_of(told.above, b"keys", None) {
+        Some(line) => tell_not_among(writer, told, line, key.text),
+        None => put_filled(
             writer,
-            &[
-                Part::Text(b"No line above declares keys; one would be: keys "),
-                Part::Text(key.text),
-                Part::Text(b"\n"),
-            ],
+            b"No line above declares keys; one would be: keys {}\n",
+            &[Token::Text(key.text)],
         ),
     }
 }
@@ -151,47 +112,34 @@ pub fn tell_undeclared<W: Write>(
 // The key is none of those of the line that declares some.
 fn tell_not_among<W: Write>(
     writer: &mut W,
-    text: &[u8],
-    number: u32,
-    declared: u32,
+    told: &Told<'_>,
+    line: u32,
     key: &[u8],
 ) -> Result<(), WriteFault> {
-    say(
+    put_filled(
         writer,
-        &[
-            Part::Text(b"The keys of line"),
-            saying::number(u64::from(declared)),
-            Part::Text(b" are others than "),
-            Part::Text(key),
-            Part::Text(b".\n"),
-        ],
+        b"The keys of line {} are others than {}.\n",
+        &[Token::Number(u64::from(line)), Token::Text(key)],
     )?;
-    match nearest_key(text, number, key) {
-        Some(near) => say(
-            writer,
-            &[
-                Part::Text(b"The nearest is "),
-                Part::Text(near),
-                Part::Text(b".\n"),
-            ],
-        ),
-        None => put_source_line(writer, text, declared),
+    match nearest_key(told.above, key) {
+        Some(near) => put_filled(writer, b"The nearest is {}.\n", &[Token::Text(near)]),
+        None => put_source_line(writer, told.text, line),
     }
 }
 
 // The first key on the line that is not declared above.
-fn undeclared_key<'a>(text: &[u8], number: u32, words: &Words<'a>) -> Option<Placed<'a>> {
-    let from = match word_at(words, 0) {
+fn undeclared_key<'a>(told: &Told<'a>) -> Option<Placed<'a>> {
+    let from = match word_at(&told.words, 0) {
         b"start" => 2,
         b"role" | b"on" => 3,
         _ => usize::MAX,
     };
-    for (place, word) in words.iter().enumerate() {
+    for (place, word) in told.words.iter().enumerate() {
         let Some(key) = key_of(*word, place >= from) else {
             continue;
         };
-        if let Some(number_of_key) = key_or_zero(key.text)
-            && !is_declared(text, number, number_of_key)
+        if let Some(number) = key_or_zero(key.text)
+            && !is_declared(told.above, number)
         {
             return Some(key);
         }
@@ -202,56 +150,44 @@ fn undeclared_key<'a>(text: &[u8], number: u32, words: &Words<'a>) -> Option<Pla
 // The key that the word is, or that the option has.
 fn key_of(word: Placed<'_>, is_key: bool) -> Option<Placed<'_>> {
     match option_key(word.text) {
-        Some(text) => Some(Placed {
-            text,
-            first: word
-                .first
-                .saturating_add(word.text.len().saturating_sub(text.len())),
-        }),
+        Some(key) => Some(word.back(word.text.len().saturating_sub(key.len()))),
         None if is_key => Some(word),
         None => None,
     }
 }
 
-/// Tells the line of this number, which says again what may be said once.
-pub fn tell_repeated<W: Write>(writer: &mut W, text: &[u8], number: u32) -> Result<(), WriteFault> {
-    let line = line_in(text, number).unwrap_or(b"");
-    let words = words_in(line);
-    if let Some(earlier) = earlier_line(text, number, &words) {
-        put_source_line(writer, text, earlier)?;
-        put_source_line(writer, text, number)?;
-        return say(
+/// Tells the line, which says again what may be said once.
+pub fn tell_repeated<W: Write>(writer: &mut W, told: &Told<'_>) -> Result<(), WriteFault> {
+    if let Some(earlier) = earlier_line(told) {
+        put_source_line(writer, told.text, earlier)?;
+        told.put_line(writer)?;
+        return put_filled(
             writer,
-            &[
-                Part::Text(b"Line"),
-                saying::number(u64::from(earlier)),
-                Part::Text(
-                    b" says it already. Delete one of the two; alternatives stand on one line.\n",
-                ),
-            ],
+            b"Line {} says it already. Delete one of the two; alternatives stand on one line.\n",
+            &[Token::Number(u64::from(earlier))],
         );
     }
-    put_source_line(writer, text, number)?;
-    if let Some(word) = second_time(&words) {
-        put_word_carets(writer, number, line, word)?;
+    told.put_line(writer)?;
+    if let Some(word) = second_time(&told.words) {
+        told.put_carets(writer, word)?;
     }
     put(writer, b"The line says that twice.\n")
 }
 
 // The line above that says the same once already.
-fn earlier_line(text: &[u8], number: u32, words: &Words<'_>) -> Option<u32> {
-    let name = word_at(words, 1);
-    match word_at(words, 0) {
-        b"host" | b"guest" => declaration(text, number, name),
-        b"keys" | b"reservation" | b"generation" | b"resets" => {
-            line_of(text, number, word_at(words, 0), None)
+fn earlier_line(told: &Told<'_>) -> Option<u32> {
+    let name = word_at(&told.words, 1);
+    match word_at(&told.words, 0) {
+        b"host" | b"guest" => declaration(told.above, name),
+        first @ (b"keys" | b"reservation" | b"generation" | b"resets") => {
+            line_of(told.above, first, None)
         }
-        first => line_of(text, number, first, Some(name)),
+        first => line_of(told.above, first, Some(name)),
     }
 }
 
 // The first word that is a key or a word that stands further to the left.
-fn second_time<'a>(words: &Words<'a>) -> Option<Placed<'a>> {
+fn second_time<'a>(words: &[Placed<'a>]) -> Option<Placed<'a>> {
     for (place, word) in words.iter().enumerate() {
         let is_again = words
             .iter()

@@ -1,255 +1,200 @@
 //! What was meant by a word, by what it is made of.
 
-use crate::corrected::{Correction, put_corrected};
 use crate::forms::wanted_words;
-use crate::misfits::{Told, tell_here};
 use crate::slips::type_by;
+use crate::told::Told;
 use crate::words::{Placed, option_key};
 use arrayvec::ArrayVec;
 use itoa::Buffer;
 use pr_lines::{Wanted, key_or_zero};
-use pr_output::{WriteFault, put};
+use pr_output::{Token, WriteFault};
 use pr_script::is_name;
-use pr_words::saying::{Part, number, say};
+use pr_words::saying::put_filled;
 use std::io::Write;
 use std::slice;
 
-/// Says what was meant by the word, and answers whether that could be guessed.
-pub fn guess<W: Write>(
-    writer: &mut W,
-    told: Told<'_>,
+/// Says what stands here in place of a word.
+pub const HERE: &[u8] = b"Here that is {}:\n";
+
+/// A text that is put together: a type with a name, and all others, are not longer.
+type Text = ArrayVec<u8, 20>;
+
+/// What was meant by a word.
+#[derive(Drop)]
+pub enum Guess<'a> {
+    /// This text stands in place of that part of the line, as a sentence says, with the text in place of `{}`.
+    Instead(&'static [u8], Placed<'a>, Text),
+
+    /// The wanted word has fewer characters or digits than there are here, of which these are the name.
+    TooLong(Wanted, usize, &'static [u8]),
+
+    /// This is wanted as the value of the option.
+    Value(Wanted),
+
+    /// A type stands without its holder.
+    Holder(&'a [u8]),
+}
+
+/// What was meant by the word at this place, which can't stand there.
+pub fn guess_at<'a>(
+    told: &Told<'a>,
     place: usize,
-    word: Placed<'_>,
+    word: Placed<'a>,
     wanted: Wanted,
-) -> Result<bool, WriteFault> {
+) -> Option<Guess<'a>> {
     if let Some(comment) = word.text.iter().position(|byte| *byte == b'#') {
-        return tell_comment(writer, told, word, comment);
+        let front = word.back(comment).front(0);
+        return instead(b"A comment begins behind a blank:\n", front, b" ");
     }
     match wanted {
-        Wanted::Name => tell_length(writer, word.text, 16, b" characters.", wanted),
-        Wanted::Key | Wanted::KeyOrZero | Wanted::Alternative => tell_key(
-            writer, told, word, wanted,
-        ),
-        Wanted::Count | Wanted::Address | Wanted::Blocks => tell_decimal(
-            writer, told, word, wanted,
-        ),
-        Wanted::Sense => tell_sense(writer, told, place, word),
-        Wanted::Reservation => tell_reservation(writer, told, word),
-        Wanted::Command | Wanted::Option => tell_value(writer, told, word),
-        Wanted::Generation => tell_front(writer, told, word),
-        Wanted::Budget => tell_budget(writer, told, word),
-        Wanted::Version | Wanted::Attention | Wanted::Action | Wanted::Kind | Wanted::If => Ok(
-            false,
-        ),
-        Wanted::Condition | Wanted::Arm | Wanted::Good | Wanted::Unsaid => Ok(false),
-        Wanted::Direction | Wanted::ServiceAction | Wanted::OtherDirection => Ok(false),
-        Wanted::NoParameter | Wanted::Type | Wanted::End => Ok(false),
+        Wanted::Name => too_long(word.text, 16, b"characters", wanted),
+        Wanted::Key | Wanted::KeyOrZero | Wanted::Alternative => as_key(word, wanted),
+        Wanted::Count | Wanted::Address | Wanted::Blocks => as_decimal(word, wanted),
+        Wanted::Sense => as_sense(told, place, word),
+        Wanted::Reservation => as_reservation(word),
+        Wanted::Command | Wanted::Option => as_value(word),
+        Wanted::Generation => as_generation(word),
+        Wanted::Budget => as_budget(word),
+        _ => None,
     }
 }
 
-fn tell_comment<W: Write>(
+/// Says what was meant.
+pub fn tell_guess<W: Write>(
     writer: &mut W,
-    told: Told<'_>,
-    word: Placed<'_>,
-    comment: usize,
-) -> Result<bool, WriteFault> {
-    put(writer, b"A comment begins behind a blank:\n")?;
-    let place = word.first.saturating_add(comment);
-    put_corrected(writer, told.line, Correction::before(place, b" "))?;
-    Ok(true)
+    told: &Told<'_>,
+    guess: Guess<'_>,
+) -> Result<(), WriteFault> {
+    match guess {
+        Guess::Instead(sentence, place, text) => told.put_meant(writer, sentence, place, &text),
+        Guess::TooLong(wanted, count, what) => put_filled(
+            writer,
+            b"{}\nThis has {} {}.\n",
+            &[
+                Token::Text(wanted_words(wanted)),
+                Token::Number(count as u64),
+                Token::Text(what),
+            ],
+        ),
+        Guess::Value(wanted) => put_filled(writer, b"{}\n", &[Token::Text(wanted_words(wanted))]),
+        Guess::Holder(kind) => put_filled(
+            writer,
+            b"A reservation of this type has one holder, whose name stands behind it: {}:NAME.\n",
+            &[Token::Text(kind)],
+        ),
+    }
 }
 
-// It may be too long.
-fn tell_length<W: Write>(
-    writer: &mut W,
-    text: &[u8],
+fn instead<'a>(sentence: &'static [u8], place: Placed<'a>, text: &[u8]) -> Option<Guess<'a>> {
+    Some(Guess::Instead(sentence, place, Text::try_from(text).ok()?))
+}
+
+fn too_long<'a>(
+    text: &'a [u8],
     most: usize,
-    of: &[u8],
+    what: &'static [u8],
     wanted: Wanted,
-) -> Result<bool, WriteFault> {
+) -> Option<Guess<'a>> {
     if text.len() <= most {
-        return Ok(false);
+        return None;
     }
-    say(
-        writer,
-        &[
-            Part::Text(wanted_words(wanted)),
-            Part::Text(b"\nThis has"),
-            number(text.len() as u64),
-            Part::Text(of),
-            Part::Text(b"\n"),
-        ],
-    )?;
-    Ok(true)
+    Some(Guess::TooLong(wanted, text.len(), what))
 }
 
-fn tell_key<W: Write>(
-    writer: &mut W,
-    told: Told<'_>,
-    word: Placed<'_>,
-    wanted: Wanted,
-) -> Result<bool, WriteFault> {
+fn as_key(word: Placed<'_>, wanted: Wanted) -> Option<Guess<'_>> {
     if let Some(digits) = word.text.strip_prefix(b"0X".as_slice())
         && key_or_zero(digits).is_some()
     {
-        put(writer, b"In front of a key stands a small x:\n")?;
-        put_corrected(
-            writer,
-            told.line,
-            Correction {
-                from: word.first,
-                to: word.first.saturating_add(2),
-                text: b"0x",
-            },
-        )?;
-        return Ok(true);
+        return instead(
+            b"In front of a key stands a small x:\n",
+            word.front(2),
+            b"0x",
+        );
     }
-    let digits = word
-        .text
-        .strip_prefix(b"0x".as_slice())
-        .unwrap_or(word.text);
+    let digits = without_prefix(word.text);
     if digits.iter().all(|digit| digit.is_ascii_hexdigit()) {
-        return tell_length(writer, digits, 16, b" digits.", wanted);
+        return too_long(digits, 16, b"digits", wanted);
     }
-    Ok(false)
+    None
+}
+
+fn without_prefix(word: &[u8]) -> &[u8] {
+    word.strip_prefix(b"0x".as_slice()).unwrap_or(word)
 }
 
 // A generation has nothing in front of its digits.
-fn tell_front<W: Write>(
-    writer: &mut W,
-    told: Told<'_>,
-    word: Placed<'_>,
-) -> Result<bool, WriteFault> {
-    let Some(digits) = word.text.strip_prefix(b"0x".as_slice()) else {
-        return Ok(false);
-    };
+fn as_generation(word: Placed<'_>) -> Option<Guess<'_>> {
+    let digits = word.text.strip_prefix(b"0x".as_slice())?;
     if digits.len() > 8 || key_or_zero(digits).is_none() {
-        return Ok(false);
+        return None;
     }
-    tell_here(writer, digits)?;
-    put_corrected(writer, told.line, Correction::of(word, digits))?;
-    Ok(true)
+    instead(HERE, word, digits)
 }
 
 // The number stands behind the word `budget`.
-fn tell_budget<W: Write>(
-    writer: &mut W,
-    told: Told<'_>,
-    word: Placed<'_>,
-) -> Result<bool, WriteFault> {
-    if !word.text.iter().all(|digit| digit.is_ascii_digit()) {
-        return Ok(false);
+fn as_budget(word: Placed<'_>) -> Option<Guess<'_>> {
+    if !is_decimal(word.text) {
+        return None;
     }
-    put(writer, b"In front of the number stands budget:\n")?;
-    put_corrected(
-        writer,
-        told.line,
-        Correction::before(word.first, b"budget "),
-    )?;
-    Ok(true)
+    instead(
+        b"In front of the number stands budget:\n",
+        word.front(0),
+        b"budget ",
+    )
+}
+
+fn is_decimal(word: &[u8]) -> bool {
+    word.iter().all(|digit| digit.is_ascii_digit())
 }
 
 // The value of an option is none.
-fn tell_value<W: Write>(
-    writer: &mut W,
-    told: Told<'_>,
-    word: Placed<'_>,
-) -> Result<bool, WriteFault> {
+fn as_value(word: Placed<'_>) -> Option<Guess<'_>> {
     if let Some(kind) = word.text.strip_prefix(b"--prout-type=".as_slice()) {
-        let Some(meant) = type_by(kind) else {
-            return tell_wanted(writer, Wanted::Kind);
+        return match type_by(kind) {
+            Some(meant) => {
+                let place = word.back(word.text.len().saturating_sub(kind.len()));
+                instead(HERE, place, meant)
+            }
+            None => Some(Guess::Value(Wanted::Kind)),
         };
-        tell_here(writer, meant)?;
-        let from = word.end().saturating_sub(kind.len());
-        let change = Correction {
-            from,
-            to: word.end(),
-            text: meant,
-        };
-        put_corrected(writer, told.line, change)?;
-        return Ok(true);
     }
-    match option_key(word.text) {
-        Some(_) => tell_wanted(writer, Wanted::KeyOrZero),
-        None => Ok(false),
-    }
-}
-
-fn tell_wanted<W: Write>(writer: &mut W, wanted: Wanted) -> Result<bool, WriteFault> {
-    say(
-        writer,
-        &[Part::Text(wanted_words(wanted)), Part::Text(b"\n")],
-    )?;
-    Ok(true)
+    option_key(word.text).map(|_| Guess::Value(Wanted::KeyOrZero))
 }
 
 // A number that is written in hexadecimal digits.
-fn tell_decimal<W: Write>(
-    writer: &mut W,
-    told: Told<'_>,
-    word: Placed<'_>,
-    wanted: Wanted,
-) -> Result<bool, WriteFault> {
-    if word.text.iter().all(|digit| digit.is_ascii_digit()) {
-        return tell_length(writer, word.text, 10, b" digits.", wanted);
+fn as_decimal(word: Placed<'_>, wanted: Wanted) -> Option<Guess<'_>> {
+    if is_decimal(word.text) {
+        return too_long(word.text, 10, b"digits", wanted);
     }
     if !word.text.starts_with(b"0x") {
-        return Ok(false);
+        return None;
     }
-    let Some(number) = key_or_zero(word.text) else {
-        return Ok(false);
-    };
-    let mut buffer = Buffer::new();
-    let decimal = buffer.format(number).as_bytes();
-    put(writer, b"This number is written in decimal:\n")?;
-    put_corrected(writer, told.line, Correction::of(word, decimal))?;
-    Ok(true)
+    let number = key_or_zero(word.text)?;
+    instead(
+        b"This number is written in decimal:\n",
+        word,
+        Buffer::new().format(number).as_bytes(),
+    )
 }
 
-fn tell_sense<W: Write>(
-    writer: &mut W,
-    told: Told<'_>,
-    place: usize,
-    word: Placed<'_>,
-) -> Result<bool, WriteFault> {
-    let Some(sense) = sense_in(told.words, place) else {
-        return Ok(false);
-    };
-    tell_here(writer, &sense)?;
-    let to = match told.words.last() {
-        Some(last) => last.end(),
-        None => word.end(),
-    };
-    put_corrected(
-        writer,
-        told.line,
-        Correction {
-            from: word.first,
-            to,
-            text: &sense,
-        },
-    )?;
-    Ok(true)
+// The sense that the words from this place on are, however its three numbers are put together.
+fn as_sense<'a>(told: &Told<'a>, place: usize, word: Placed<'a>) -> Option<Guess<'a>> {
+    let mut sense = Text::new();
+    for word in told.words.iter().skip(place) {
+        add_numbers(&mut sense, word.text)?;
+    }
+    if sense.len() != MOST_LETTERS {
+        return None;
+    }
+    let text = told.line.get(word.first..told.words.last()?.end())?;
+    Some(Guess::Instead(HERE, Placed { text, ..word }, sense))
 }
 
 /// As many letters as a sense has.
 const MOST_LETTERS: usize = 7;
 
-// The sense that the words from this place on are, however its three numbers are put together.
-fn sense_in(words: &[Placed<'_>], place: usize) -> Option<ArrayVec<u8, MOST_LETTERS>> {
-    let mut sense = ArrayVec::new();
-    for word in words.iter().skip(place) {
-        add_numbers(&mut sense, word.text)?;
-    }
-    if sense.len() == MOST_LETTERS {
-        Some(sense)
-    } else {
-        None
-    }
-}
-
 // The numbers of a word, with slashes or colons between them. More than three of them don't fit.
-fn add_numbers(sense: &mut ArrayVec<u8, MOST_LETTERS>, word: &[u8]) -> Option<()> {
+fn add_numbers(sense: &mut Text, word: &[u8]) -> Option<()> {
     let mut rest = word;
     for _ in 0..MOST_LETTERS {
         let end = rest.iter().position(|byte| *byte == b'/' || *byte == b':');
@@ -264,8 +209,8 @@ fn add_numbers(sense: &mut ArrayVec<u8, MOST_LETTERS>, word: &[u8]) -> Option<()
 }
 
 // One digit, and then two and two, with slashes between them.
-fn add_number(sense: &mut ArrayVec<u8, MOST_LETTERS>, number: &[u8]) -> Option<()> {
-    let digits = number.strip_prefix(b"0x".as_slice()).unwrap_or(number);
+fn add_number(sense: &mut Text, number: &[u8]) -> Option<()> {
+    let digits = without_prefix(number);
     let is_key = sense.is_empty();
     let digits = match digits {
         [b'0', digit] if is_key => slice::from_ref(digit),
@@ -277,41 +222,19 @@ fn add_number(sense: &mut ArrayVec<u8, MOST_LETTERS>, number: &[u8]) -> Option<(
     if !is_key {
         sense.try_push(b'/').ok()?;
     }
-    for digit in digits {
-        sense.try_push(*digit).ok()?;
-    }
-    Some(())
+    sense.try_extend_from_slice(digits).ok()
 }
 
 // The type stands in front of its holder, and is a number.
-fn tell_reservation<W: Write>(
-    writer: &mut W,
-    told: Told<'_>,
-    word: Placed<'_>,
-) -> Result<bool, WriteFault> {
-    if let b"1" | b"3" | b"5" | b"6" = word.text {
-        say(
-            writer,
-            &[
-                Part::Text(
-                    b"A reservation of this type has one holder, whose name stands behind it: ",
-                ),
-                Part::Text(word.text),
-                Part::Text(b":NAME.\n"),
-            ],
-        )?;
-        return Ok(true);
+fn as_reservation(word: Placed<'_>) -> Option<Guess<'_>> {
+    if is_single(word.text) {
+        return Some(Guess::Holder(word.text));
     }
-    let Some(held) = held_in(word.text) else {
-        return Ok(false);
-    };
-    tell_here(writer, &held)?;
-    put_corrected(writer, told.line, Correction::of(word, &held))?;
-    Ok(true)
+    Some(Guess::Instead(HERE, word, held_in(word.text)?))
 }
 
 // A type and a name with a colon between them, however they stand.
-fn held_in(word: &[u8]) -> Option<ArrayVec<u8, 18>> {
+fn held_in(word: &[u8]) -> Option<Text> {
     let colon = word.iter().position(|byte| *byte == b':')?;
     let (front, back) = (word.get(..colon)?, word.get(colon.saturating_add(1)..)?);
     let (kind, name) = match (single_type(front), single_type(back)) {
@@ -322,24 +245,17 @@ fn held_in(word: &[u8]) -> Option<ArrayVec<u8, 18>> {
     if !is_name(name) {
         return None;
     }
-    let mut held = ArrayVec::new();
-    for byte in kind {
-        held.try_push(*byte).ok()?;
-    }
+    let mut held = Text::try_from(kind).ok()?;
     held.try_push(b':').ok()?;
-    for byte in name {
-        held.try_push(*byte).ok()?;
-    }
+    held.try_extend_from_slice(name).ok()?;
     Some(held)
 }
 
 // The number of a type that has one holder.
 fn single_type(word: &[u8]) -> Option<&[u8]> {
-    match word {
-        b"1" | b"3" | b"5" | b"6" => Some(word),
-        _ => match type_by(word) {
-            Some(kind) if !matches!(kind, b"7" | b"8") => Some(kind),
-            Some(_) | None => None,
-        },
-    }
+    Some(type_by(word).unwrap_or(word)).filter(|kind| is_single(kind))
+}
+
+fn is_single(kind: &[u8]) -> bool {
+    matches!(kind, b"1" | b"3" | b"5" | b"6")
 }

@@ -6,16 +6,16 @@
 #![tactic(auto)]
 
 mod bytes;
-mod corrected;
 mod forms;
 mod guesses;
 mod misfits;
 mod nearest;
 mod slips;
+mod told;
 mod words;
 
 pub use bytes::tell_not_ascii;
-pub use corrected::{Correction, put_corrected};
-pub use misfits::{Told, put_word_carets, tell_misfit, tell_no_line};
+pub use misfits::{tell_misfit, tell_no_line};
 pub use nearest::{Nearest, edits};
+pub use told::Told;
 pub use words::{Placed, Words, option_key, word_at, words_in};

@@ -1,12 +1,12 @@
 //! The words of a line, with their places.
 
 use arrayvec::ArrayVec;
-use pr_lines::next_word;
+use pr_lines::{next_word, value_after};
 
 /// The most words of a line that are looked at: a line has 256 bytes at most.
 pub const MOST_WORDS: usize = 130;
 
-/// A word of a line.
+/// A word of a line, or a part of one.
 #[derive(Clone, Copy, Default)]
 pub struct Placed<'a> {
     pub text: &'a [u8],
@@ -15,10 +15,26 @@ pub struct Placed<'a> {
     pub first: usize,
 }
 
-impl Placed<'_> {
+impl<'a> Placed<'a> {
     /// The place behind its last byte.
     pub fn end(&self) -> usize {
         self.first.saturating_add(self.text.len())
+    }
+
+    /// What stands in front of this place in it.
+    pub fn front(&self, end: usize) -> Self {
+        Placed {
+            text: self.text.get(..end).unwrap_or(b""),
+            first: self.first,
+        }
+    }
+
+    /// What stands in it from this place on.
+    pub fn back(&self, from: usize) -> Self {
+        Placed {
+            text: self.text.get(from..).unwrap_or(b""),
+            first: self.first.saturating_add(from),
+        }
     }
 }
 
@@ -31,34 +47,13 @@ pub fn words_in(line: &[u8]) -> Words<'_> {
     let mut rest = line;
     for _ in 0..MOST_WORDS {
         let Some((text, others)) = next_word(rest) else {
-            return words;
+            break;
         };
-        let first = first_of(line, text, others);
+        let first = line.len().saturating_sub(rest.trim_ascii_start().len());
         let _ = words.try_push(Placed { text, first });
         rest = others;
     }
     words
-}
-
-// The place of the word on its line, of which these others stand behind it.
-fn first_of(line: &[u8], word: &[u8], others: &[u8]) -> usize {
-    let left = word.len().saturating_add(others.len());
-    let last = line.len().saturating_sub(left);
-    // (between the two stands a blank, but at the end of the line)
-    let first = last.saturating_sub(1);
-    match line.get(first) {
-        Some(byte) if !is_blank(*byte) => first,
-        Some(_) | None => last,
-    }
-}
-
-fn is_blank(byte: u8) -> bool {
-    byte == b' ' || byte == b'\t'
-}
-
-/// Whether the word is this one.
-pub fn is(word: &[u8], text: &[u8]) -> bool {
-    word == text
 }
 
 /// The word at this place among the words, counted from 0; empty where there is none.
@@ -71,8 +66,5 @@ pub fn word_at<'a>(words: &[Placed<'a>], place: usize) -> &'a [u8] {
 
 /// What follows the name of an option that has a key.
 pub fn option_key(word: &[u8]) -> Option<&[u8]> {
-    match word.strip_prefix(b"--param-rk=".as_slice()) {
-        Some(key) => Some(key),
-        None => word.strip_prefix(b"--param-sark=".as_slice()),
-    }
+    value_after("--param-rk=", word).or(value_after("--param-sark=", word))
 }
