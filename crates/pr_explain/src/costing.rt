@@ -19,6 +19,7 @@ pub struct Cost {
 pub fn costs(alloc: Global, nexuses: &[Nexus]) -> Result<Vec<Option<Cost>>, AllocError>
     ensures { IfOk result (λ costs. costs.items ≡ map (λ n. cost_of (task_of n.task)) nexuses.now) }
 {
+    // (by pushes: where its first request for memory is refused, `collect` goes on by others, and nobody is told)
     let mut costs = Vec::new(alloc);
     for nexus in nexuses {
         costs.push(cost_of(&nexus.task))?;
