@@ -42,8 +42,7 @@ pub use Rattle.pr_text.specs.Texts.{all_placed, start_of, starts_somewhere, firs
 unfoldable pub use Rattle.pr_text.specs.Texts.{end_placed, answer_of}
 pub use Rattle.pr_text.specs.declared.fault.ReadError.{ReadError}
 pub use Rattle.pr_text.specs.declared.fault.Which.{Which}
-pub use Rattle.pr_text.specs.inside.Chains.{are_codes_distinct, start_fault}
-unfoldable pub use Rattle.pr_text.specs.inside.Chains.{start_placed, pending_placed, refusals_placed, role_placed, script_placed, plan_placed, planned_step, item_standing, script_step, keys_placed, nexus_placed, reservation_placed, generation_placed, resets_placed}
+unfoldable pub use Rattle.pr_text.specs.inside.LineSteps.{declaring_step, planned_step, item_standing, script_step}
 pub use Rattle.pr_text.specs.inside.Drafts.{draft_seen, declared_by}
 pub use Rattle.pr_text.specs.inside.Endings.{missing_fault}
 pub use Rattle.pr_text.specs.inside.Sound.{is_line_of, IsDated, IsTask, IsDeclaration, AreDeclarations, IsSound, is_statement, Reached, may, may_all, IsPlace}

@@ -137,6 +137,10 @@ first_fault n misplaced unknown undeclared again past =
     if again then Some (fault.Repeated n) else
     option_map (λ limit. fault.Limit limit n) past)))
 
+-- what is wrong with a line outside
+abbrev pub declaring_fault : ℕ → Declared → DeclaringLine → Option ReadError
+declaring_fault n d l = first_fault n false (names_unknown d l) (keys_undeclared d l) (says_again d l) (past_limit d l)
+
 -- what is wrong with a line of a script, under these declared keys
 abbrev pub statement_fault : ℕ → List ℕ → OpenLines → StatementLine → Option ReadError
 statement_fault n keys o l = first_fault n (out_of_place o l) false (has_undeclared keys l) false (past_limit_in o l)
@@ -149,8 +153,7 @@ command_fault n keys commands s =
 -- what is wrong with a line that the version has, by where it stands
 abbrev pub standing_fault : ℕ → Declared → ScenarioLine → Option ReadError
 standing_fault n d (fence_line version) = first_fault n (not (is_before_all d.place)) false false false None
-standing_fault n d (declares l) =
-    first_fault n (not (is_outside d.place)) (names_unknown d l) (keys_undeclared d l) (says_again d l) (past_limit d l)
+standing_fault n d (declares l) = if is_outside d.place then declaring_fault n d l else Some (fault.Syntax n)
 standing_fault n d (states l) = of_script (Some (fault.Syntax n)) (λ o. statement_fault n (declared_keys d) o l) d.place
 standing_fault n d (command_line s) = of_plan (Some (fault.Syntax n)) (λ h commands. command_fault n (declared_keys d) commands s) d.place
 standing_fault n d end_line = first_fault n (by_place true true (λ o. not (length o.blocks == 0)) (λ h commands. false) d.place) false false false None

@@ -1,4 +1,4 @@
-pub mod Chains
+pub mod LineSteps
 pub mod Drafts
 pub mod Endings
 pub mod OpenScripts

@@ -4,7 +4,7 @@ ghost use Rattle.std.specs.Prelude.{◌≡◌, ◌≤◌, ◌&&◌, nat_le, leng
 ghost use Rattle.pr_roles.specs.declared.limits.TheConstants.{MOST_DECLARED_2};
 ghost use Rattle.pr_text.specs.LineFaults.{limit_of};
 ghost use Rattle.pr_text.specs.inside.Steps.{Gives};
-ghost use Rattle.pr_text.specs.inside.Chains.{planned_step};
+ghost use Rattle.pr_text.specs.inside.LineSteps.{planned_step};
 
 use crate::diagnosis::{Above, Section};
 use crate::draft::{Draft, number_in, pending_of};
@@ -18,8 +18,9 @@ use pr_registry::Held;
 use pr_roles::limits::{
     MOST_CLAUSES, MOST_KEYS, MOST_PLANNED, MOST_REFUSALS, MOST_RESETS, most_declared,
 };
-use pr_roles::{Clause, Task, Word, are_distinct, are_held_apart, is_action};
+use pr_roles::{Clause, Task, Word, are_alternatives, are_distinct, are_held_apart, is_action};
 use pr_script::Script;
+use pr_script::limits::MOST_BUDGET;
 use std::alloc::{AllocError, Global};
 use std::mem;
 
@@ -55,14 +56,14 @@ impl Builder {
     ghost use Rattle.pr_text.specs.declared.builder.Context.TheVariants.{Outside};
     ghost use Rattle.pr_text.specs.inside.Steps.{Gives};
     ghost use Rattle.pr_lines.specs.LineValues.{line_of_value, wanted_seen};
+    ghost use Rattle.pr_lines.specs.ScenarioLines.{keys_line, nexus_line, start_line, pending_line, refusals_line, reservation_line, generation_line, resets_line, role_line, script_line, plan_line, end_line};
     ghost use Rattle.pr_lines.specs.Versions.{since};
-    ghost use Rattle.pr_text.specs.Declarations.{nothing};
+    ghost use Rattle.pr_text.specs.Declarations.{before_all, in_script, in_plan, nothing};
     ghost use Rattle.pr_text.specs.Declaring.{declared_keys, number_of, held_of};
     ghost use Rattle.pr_lines.specs.Chain.{each};
-    ghost use Rattle.pr_text.specs.inside.Chains.{keys_placed, nexus_placed, start_placed, pending_placed, refusals_placed, reservation_placed, generation_placed, resets_placed, role_placed, script_placed, plan_placed};
     ghost use Rattle.pr_text.specs.inside.Drafts.{draft_seen, task_seen, declared_by};
     ghost use Rattle.pr_text.specs.inside.OpenScripts.{open_seen};
-    ghost use Rattle.pr_text.specs.inside.Chains.{item_standing, placed_first, placed_outside, placed_in_script, placed_in_plan, script_ended};
+    ghost use Rattle.pr_text.specs.inside.LineSteps.{declaring_step, item_standing};
     ghost use Rattle.pr_text.specs.NextLine.{with_task, item_placed};
 
     /// Nothing is declared yet.
@@ -91,7 +92,7 @@ impl Builder {
     }
 
     /// What is declared with one line more.
-    #[tactic(auto, unfolding(crate::specs::inside::Chains::item_taken), using(crate::proofs::lemmas::LineFaults::Order::in_order))]
+    #[tactic(auto, unfolding(crate::specs::NextLine::item_placed, crate::specs::inside::LineSteps::item_standing))]
     pub fn with_item(self, alloc: Global, line: u32, item: ScenarioLine) -> Result<Self, ReadError>
         ensures { Gives declared_by result
             (item_placed line (line_of_value item) (declared_by self)) }
@@ -110,7 +111,7 @@ impl Builder {
     }
 
     // What is declared with one line more, which the version has.
-    #[tactic(auto, unfolding(crate::specs::inside::Chains::item_standing))]
+    #[tactic(auto, unfolding(crate::specs::inside::LineSteps::item_standing))]
     fn with_standing(
         mut self,
         alloc: Global,
@@ -130,10 +131,12 @@ impl Builder {
         }
     }
 
+    #[tactic(auto, unfolding(crate::specs::inside::LineSteps::item_standing))]
     fn first_line(mut self, line: u32, item: ScenarioLine) -> Result<Self, ReadError>
         requires { self.place ≡ Outside }
         ensures { Gives declared_by result
-            (placed_first line (line_of_value item) (declared_by self)) }
+            (item_standing line (line_of_value item)
+            (record (declared_by self) { place = before_all })) }
     {
         match item {
             ScenarioLine::Fence(version) => {
@@ -144,9 +147,11 @@ impl Builder {
         }
     }
 
+    #[tactic(auto, unfolding(crate::specs::inside::LineSteps::item_standing, crate::specs::inside::LineSteps::declaring_step))]
     fn line_outside(self, alloc: Global, line: u32, item: ScenarioLine) -> Result<Self, ReadError>
+        requires { self.place ≡ Outside }
         ensures { Gives declared_by result
-            (placed_outside line (line_of_value item) (declared_by self)) }
+            (item_standing line (line_of_value item) (declared_by self)) }
     {
         match item {
             ScenarioLine::Keys(keys) => self.keys_line(line, keys),
@@ -167,9 +172,10 @@ impl Builder {
         }
     }
 
-    #[tactic(auto, unfolding(crate::specs::inside::Chains::keys_placed))]
+    #[tactic(auto, unfolding(crate::specs::inside::LineSteps::declaring_step))]
     fn keys_line(mut self, line: u32, keys: Vec<u64>) -> Result<Self, ReadError>
-        ensures { Gives declared_by result (keys_placed line keys.items (declared_by self)) }
+        ensures { Gives declared_by result
+            (declaring_step line (keys_line keys.items) (declared_by self)) }
     {
         if self.keys.is_some() || !are_distinct(keys.as_slice()) {
             return Err(ReadError::Repeated { line });
@@ -182,7 +188,7 @@ impl Builder {
         Ok(self)
     }
 
-    #[tactic(auto, unfolding(crate::specs::inside::Chains::nexus_placed))]
+    #[tactic(auto, unfolding(crate::specs::inside::LineSteps::declaring_step))]
     fn nexus_line(
         mut self,
         alloc: Global,
@@ -191,7 +197,7 @@ impl Builder {
         name: Word,
     ) -> Result<Self, ReadError>
         ensures { Gives declared_by result
-            (nexus_placed line is_guest name.bytes (declared_by self)) }
+            (declaring_step line (nexus_line is_guest name.bytes) (declared_by self)) }
     {
         if self.number_of(&name).is_some() {
             return Err(ReadError::Repeated { line });
@@ -204,7 +210,7 @@ impl Builder {
         Ok(self)
     }
 
-    #[tactic(auto, unfolding(crate::specs::inside::Chains::start_placed), using(crate::proofs::lemmas::Steps::Failures::fails_same, crate::proofs::lemmas::Drafts::Numbers::found, crate::proofs::lemmas::Drafts::Numbers::changed))]
+    #[tactic(auto, unfolding(crate::specs::inside::LineSteps::declaring_step), using(crate::proofs::lemmas::Drafts::Numbers::found, crate::proofs::lemmas::Drafts::Numbers::changed))]
     fn start_line(
         mut self,
         line: u32,
@@ -212,20 +218,23 @@ impl Builder {
         alternatives: Vec<Option<u64>>,
     ) -> Result<Self, ReadError>
         ensures { Gives declared_by result
-            (start_placed line name.bytes alternatives.items (declared_by self)) }
+            (declaring_step line (start_line name.bytes alternatives.items) (declared_by self)) }
     {
         let Some(number) = self.number_of(&name) else {
             return Err(ReadError::UnknownName { line });
         };
-        let keys = self.declared_keys();
-        if let Some(fault) = self.nexuses[number].start_fault(line, keys, &alternatives) {
-            return Err(fault);
+        let nexus = &self.nexuses[number];
+        if !are_alternatives(self.declared_keys(), &alternatives) {
+            return Err(ReadError::UndeclaredKey { line });
+        }
+        if nexus.start.is_some() || !are_distinct(&alternatives) {
+            return Err(ReadError::Repeated { line });
         }
         self.nexuses[number].start = Some(alternatives);
         Ok(self)
     }
 
-    #[tactic(auto, unfolding(crate::specs::inside::Chains::pending_placed), using(crate::proofs::lemmas::Drafts::Numbers::found, crate::proofs::lemmas::Drafts::Numbers::changed))]
+    #[tactic(auto, unfolding(crate::specs::inside::LineSteps::declaring_step), using(crate::proofs::lemmas::Drafts::Numbers::found, crate::proofs::lemmas::Drafts::Numbers::changed))]
     fn pending_line(
         mut self,
         line: u32,
@@ -233,7 +242,7 @@ impl Builder {
         attentions: &[Attention],
     ) -> Result<Self, ReadError>
         ensures { Gives declared_by result
-            (pending_placed line name.bytes attentions.now (declared_by self)) }
+            (declaring_step line (pending_line name.bytes attentions.now) (declared_by self)) }
     {
         let Some(number) = self.number_of(&name) else {
             return Err(ReadError::UnknownName { line });
@@ -246,7 +255,7 @@ impl Builder {
         Ok(self)
     }
 
-    #[tactic(auto, unfolding(crate::specs::inside::Chains::refusals_placed), using(crate::proofs::lemmas::Drafts::Numbers::found, crate::proofs::lemmas::Drafts::Numbers::changed))]
+    #[tactic(auto, unfolding(crate::specs::inside::LineSteps::declaring_step), using(crate::proofs::lemmas::Drafts::Numbers::found, crate::proofs::lemmas::Drafts::Numbers::changed))]
     fn refusals_line(
         mut self,
         line: u32,
@@ -255,7 +264,7 @@ impl Builder {
         count: u64,
     ) -> Result<Self, ReadError>
         ensures { Gives declared_by result
-            (refusals_placed line refusal name.bytes count (declared_by self)) }
+            (declaring_step line (refusals_line refusal name.bytes count) (declared_by self)) }
     {
         let Some(number) = self.number_of(&name) else {
             return Err(ReadError::UnknownName { line });
@@ -272,7 +281,7 @@ impl Builder {
         Ok(self)
     }
 
-    #[tactic(auto, unfolding(crate::specs::inside::Chains::reservation_placed))]
+    #[tactic(auto, unfolding(crate::specs::inside::LineSteps::declaring_step))]
     fn reservation_line(
         mut self,
         alloc: Global,
@@ -280,7 +289,7 @@ impl Builder {
         wanted: &[StartReservation],
     ) -> Result<Self, ReadError>
         ensures { Gives declared_by result
-            (reservation_placed line (map wanted_seen wanted.now) (declared_by self)) }
+            (declaring_step line (reservation_line (map wanted_seen wanted.now)) (declared_by self)) }
     {
         let Some(reservations) = self.reservations_of(alloc, wanted)? else {
             return Err(ReadError::UnknownName { line });
@@ -292,9 +301,10 @@ impl Builder {
         Ok(self)
     }
 
-    #[tactic(auto, unfolding(crate::specs::inside::Chains::generation_placed))]
+    #[tactic(auto, unfolding(crate::specs::inside::LineSteps::declaring_step))]
     fn generation_line(mut self, line: u32, generation: u32) -> Result<Self, ReadError>
-        ensures { Gives declared_by result (generation_placed line generation (declared_by self)) }
+        ensures { Gives declared_by result
+            (declaring_step line (generation_line generation) (declared_by self)) }
     {
         if self.generation.is_some() {
             return Err(ReadError::Repeated { line });
@@ -303,9 +313,10 @@ impl Builder {
         Ok(self)
     }
 
-    #[tactic(auto, unfolding(crate::specs::inside::Chains::resets_placed))]
+    #[tactic(auto, unfolding(crate::specs::inside::LineSteps::declaring_step))]
     fn resets_line(mut self, line: u32, count: u64) -> Result<Self, ReadError>
-        ensures { Gives declared_by result (resets_placed line count (declared_by self)) }
+        ensures { Gives declared_by result
+            (declaring_step line (resets_line count) (declared_by self)) }
     {
         if self.resets.is_some() {
             return Err(ReadError::Repeated { line });
@@ -318,9 +329,10 @@ impl Builder {
         Ok(self)
     }
 
-    #[tactic(auto, unfolding(crate::specs::inside::Chains::role_placed), using(crate::proofs::lemmas::Drafts::Numbers::found, crate::proofs::lemmas::Drafts::Numbers::changed))]
+    #[tactic(auto, unfolding(crate::specs::inside::LineSteps::declaring_step), using(crate::proofs::lemmas::Drafts::Numbers::found, crate::proofs::lemmas::Drafts::Numbers::changed))]
     fn role_line(mut self, line: u32, name: Word, clause: Clause) -> Result<Self, ReadError>
-        ensures { Gives declared_by result (role_placed line name.bytes clause (declared_by self)) }
+        ensures { Gives declared_by result
+            (declaring_step line (role_line name.bytes clause) (declared_by self)) }
     {
         let Some(number) = self.number_of(&name) else {
             return Err(ReadError::UnknownName { line });
@@ -337,7 +349,7 @@ impl Builder {
         Ok(self)
     }
 
-    #[tactic(auto, unfolding(crate::specs::inside::Chains::script_placed), using(crate::proofs::lemmas::Steps::Failures::fails_same, crate::proofs::lemmas::Drafts::Numbers::found))]
+    #[tactic(auto, unfolding(crate::specs::inside::LineSteps::declaring_step), using(crate::proofs::lemmas::Drafts::Numbers::found))]
     fn script_line(
         mut self,
         alloc: Global,
@@ -346,21 +358,30 @@ impl Builder {
         budget: u64,
     ) -> Result<Self, ReadError>
         ensures { Gives declared_by result
-            (script_placed line name.bytes budget (declared_by self)) }
+            (declaring_step line (script_line name.bytes budget) (declared_by self)) }
     {
         let Some(host) = self.number_of(&name) else {
             return Err(ReadError::UnknownName { line });
         };
-        if let Some(fault) = self.nexuses[host].script_fault(line, budget) {
-            return Err(fault);
+        let nexus = &self.nexuses[host];
+        if nexus.is_guest {
+            return Err(ReadError::UnknownName { line });
+        }
+        if nexus.task.is_some() {
+            return Err(ReadError::Repeated { line });
+        }
+        if !is_within(budget, MOST_BUDGET) {
+            let which = Which::Budget;
+            return Err(ReadError::Limit { which, line });
         }
         self.place = Context::InScript(OpenScript::new(alloc, line, host, budget as u32));
         Ok(self)
     }
 
-    #[tactic(auto, unfolding(crate::specs::inside::Chains::plan_placed), using(crate::proofs::lemmas::Drafts::Numbers::found))]
+    #[tactic(auto, unfolding(crate::specs::inside::LineSteps::declaring_step), using(crate::proofs::lemmas::Drafts::Numbers::found))]
     fn plan_line(mut self, alloc: Global, line: u32, name: Word) -> Result<Self, ReadError>
-        ensures { Gives declared_by result (plan_placed line name.bytes (declared_by self)) }
+        ensures { Gives declared_by result
+            (declaring_step line (plan_line name.bytes) (declared_by self)) }
     {
         let Some(guest) = self.number_of(&name) else {
             return Err(ReadError::UnknownName { line });
@@ -376,7 +397,7 @@ impl Builder {
         Ok(self)
     }
 
-    #[tactic(auto, using(crate::proofs::lemmas::Steps::Failures::fails_first))]
+    #[tactic(auto, unfolding(crate::specs::inside::LineSteps::item_standing))]
     fn line_in_script(
         mut self,
         alloc: Global,
@@ -386,7 +407,8 @@ impl Builder {
     ) -> Result<Self, ReadError>
         requires { self.place ≡ Outside }
         ensures { Gives declared_by result
-            (placed_in_script line (open_seen script) (line_of_value item) (declared_by self)) }
+            (item_standing line (line_of_value item)
+            (record (declared_by self) { place = in_script (open_seen script) })) }
     {
         if let ScenarioLine::End = item {
             return self.script_end(line, script);
@@ -396,11 +418,12 @@ impl Builder {
         Ok(self)
     }
 
-    #[tactic(auto, using(crate::proofs::lemmas::OpenScripts::Lines::closed_lines))]
+    #[tactic(auto, unfolding(crate::specs::inside::LineSteps::item_standing), using(crate::proofs::lemmas::OpenScripts::Lines::closed_lines))]
     fn script_end(mut self, line: u32, script: OpenScript) -> Result<Self, ReadError>
         requires { self.place ≡ Outside }
         ensures { Gives declared_by result
-            (script_ended line (open_seen script) (declared_by self)) }
+            (item_standing line end_line
+            (record (declared_by self) { place = in_script (open_seen script) })) }
     {
         if !script.is_closed() {
             return Err(ReadError::Syntax { line });
@@ -416,7 +439,7 @@ impl Builder {
         Ok(self)
     }
 
-    #[tactic(auto, using(crate::proofs::lemmas::Steps::Failures::fails_first))]
+    #[tactic(auto, unfolding(crate::specs::inside::LineSteps::item_standing))]
     fn line_in_plan(
         mut self,
         line: u32,
@@ -427,7 +450,8 @@ impl Builder {
     ) -> Result<Self, ReadError>
         requires { self.place ≡ Outside }
         ensures { Gives declared_by result
-            (placed_in_plan line guest commands.items (line_of_value item) (declared_by self)) }
+            (item_standing line (line_of_value item)
+            (record (declared_by self) { place = in_plan guest commands.items })) }
     {
         match item {
             ScenarioLine::Command(spelled) => {
@@ -528,7 +552,7 @@ fn limit_of(refusal: RefusalKind) -> Which
 }
 
 // The commands with one more.
-#[tactic(auto, unfolding(crate::specs::inside::Chains::planned_step))]
+#[tactic(auto, unfolding(crate::specs::inside::LineSteps::planned_step))]
 fn with_command(
     line: u32,
     keys: &[u64],

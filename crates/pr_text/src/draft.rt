@@ -3,11 +3,9 @@
 ghost use Rattle.std.specs.Prelude.{◌≡◌, ◌<◌, IfSome, Some, None, fold, length, position, bytes_eq};
 ghost use Rattle.pr_text.specs.Declaring.{codes_of};
 
-use crate::fault::{ReadError, Which};
 use pr_attention::{Attention, Pending};
 use pr_lines::RefusalKind;
-use pr_roles::{Clause, Task, Word, are_alternatives, are_distinct};
-use pr_script::limits::MOST_BUDGET;
+use pr_roles::{Clause, Task, Word};
 use std::alloc::Global;
 
 /// What is declared of a nexus so far.
@@ -27,11 +25,9 @@ pub struct Draft {
 }
 
 impl Draft {
-    ghost use Rattle.std.specs.Prelude.{◌≡◌, ◌≤◌, [], None, IfNone};
-    ghost use Rattle.pr_script.specs.declared.limits.TheConstants.{MOST_BUDGET};
+    ghost use Rattle.std.specs.Prelude.{◌≡◌, [], None};
     ghost use Rattle.pr_text.specs.Declaring.{count_in};
     ghost use Rattle.pr_text.specs.NextLine.{with_count};
-    ghost use Rattle.pr_text.specs.inside.Chains.{start_fault, script_fault};
     ghost use Rattle.pr_text.specs.inside.Drafts.{draft_seen};
 
     /// A nexus of which nothing more is said yet.
@@ -61,24 +57,6 @@ impl Draft {
         }
     }
 
-    /// Why these may not be its alternatives.
-    pub fn start_fault(
-        &self,
-        line: u32,
-        keys: &[u64],
-        alternatives: &[Option<u64>],
-    ) -> Option<ReadError>
-        ensures { result ≡ start_fault line keys.now (draft_seen self.now) alternatives.now }
-    {
-        if !are_alternatives(keys, alternatives) {
-            return Some(ReadError::UndeclaredKey { line });
-        }
-        if self.start.is_some() || !are_distinct(alternatives) {
-            return Some(ReadError::Repeated { line });
-        }
-        None
-    }
-
     /// How often this refusal may come, where a line has said it.
     pub fn count(&self, refusal: RefusalKind) -> Option<u32>
         ensures { result ≡ count_in refusal (draft_seen self.now) }
@@ -97,24 +75,6 @@ impl Draft {
             RefusalKind::Busy => self.busy = Some(count),
             RefusalKind::Full => self.full = Some(count),
         }
-    }
-
-    /// Why it may not have a script with this budget.
-    pub fn script_fault(&self, line: u32, budget: u64) -> Option<ReadError>
-        ensures fault { result ≡ script_fault line budget (draft_seen self.now) }
-        ensures within { IfNone result (budget ≤ MOST_BUDGET) }
-    {
-        if self.is_guest {
-            return Some(ReadError::UnknownName { line });
-        }
-        if self.task.is_some() {
-            return Some(ReadError::Repeated { line });
-        }
-        if budget < 1 || budget > u64::from(MOST_BUDGET) {
-            let which = Which::Budget;
-            return Some(ReadError::Limit { which, line });
-        }
-        None
     }
 }
 

@@ -1,9 +1,12 @@
 //! A script that is open: its statements so far, and the blocks that are open in it.
 
-ghost use Rattle.std.specs.Prelude.{◌≡◌, [], ◌∷◌, ◌++◌, IfOk};
+ghost use Rattle.std.specs.Prelude.{◌≡◌, [], ◌∷◌, ◌++◌, IfOk, Some, None, false, not, nat_le, if◌then◌else◌};
 ghost use Rattle.pr_text.specs.Standing.{is_repeating};
 ghost use Rattle.pr_text.specs.Declaring.{is_spelled};
-ghost use Rattle.pr_text.specs.inside.Chains.{arm_fault};
+ghost use Rattle.pr_script.specs.Grammar.{stands_under, is_test_declared};
+ghost use Rattle.pr_script.specs.declared.limits.TheConstants.{MOST_ARMS};
+ghost use Rattle.pr_text.specs.declared.fault.Which.TheVariants.{Arms};
+ghost use Rattle.pr_text.specs.LineFaults.{first_fault};
 ghost use Rattle.pr_script.specs.Trees.{statement_of};
 ghost use Rattle.pr_text.specs.ScriptLines.{statement_lines, block_done};
 ghost use Rattle.pr_text.specs.inside.OpenScripts.{block_by, opener_lines, lines_in};
@@ -69,12 +72,13 @@ pub struct OpenScript {
 }
 
 impl OpenScript {
-    ghost use Rattle.std.specs.Prelude.{◌≡◌, ◌==◌, false, IfOk, None, Some, [], length, count_by};
+    ghost use Rattle.std.specs.Prelude.{◌≡◌, ◌==◌, false, IfOk, None, Some, [], length, count_by, nat_le};
+    ghost use Rattle.pr_script.specs.declared.limits.TheConstants.{MOST_STATEMENTS};
     ghost use Rattle.pr_text.specs.inside.Steps.{Gives};
     ghost use Rattle.pr_lines.specs.LineValues.{line_of_value};
     ghost use Rattle.pr_text.specs.inside.OpenScripts.{open_seen, opened_in};
     ghost use Rattle.pr_text.specs.Standing.{awaits_arm, awaits_more, is_repeating, is_sending, is_in_repeat};
-    ghost use Rattle.pr_text.specs.inside.Chains.{is_full, script_step, line_step};
+    ghost use Rattle.pr_text.specs.inside.LineSteps.{script_step, line_step};
     ghost use Rattle.pr_lines.specs.ScenarioLines.{send_line, on_line, done_line, repeat_line, break_line, stop_line};
 
     /// A script without statements.
@@ -100,7 +104,7 @@ impl OpenScript {
     }
 
     /// The script with one line more.
-    #[tactic(auto, unfolding(crate::specs::inside::Chains::script_step))]
+    #[tactic(auto, unfolding(crate::specs::inside::LineSteps::script_step))]
     pub fn with_item(
         self,
         alloc: Global,
@@ -175,7 +179,7 @@ impl OpenScript {
     }
 
     fn is_full(&self) -> bool
-        ensures { result ≡ is_full (open_seen self.now) }
+        ensures { result ≡ nat_le MOST_STATEMENTS (open_seen self.now).statements }
     {
         self.statements >= MOST_STATEMENTS
     }
@@ -203,7 +207,7 @@ impl OpenScript {
             .count()
     }
 
-    #[tactic(auto, unfolding(crate::specs::inside::Chains::script_step))]
+    #[tactic(auto, unfolding(crate::specs::inside::LineSteps::script_step))]
     fn send(mut self, line: u32, keys: &[u64], spelled: ParsedCommand) -> Result<Self, ReadError>
         ensures { Gives open_seen result (script_step line keys.now (send_line spelled)
             (open_seen self)) }
@@ -230,7 +234,7 @@ impl OpenScript {
         Ok(self)
     }
 
-    #[tactic(auto, unfolding(crate::specs::inside::Chains::script_step))]
+    #[tactic(auto, unfolding(crate::specs::inside::LineSteps::script_step))]
     fn repeat(self, alloc: Global, line: u32, count: u64) -> Result<Self, ReadError>
         ensures { Gives open_seen result (script_step line [] (repeat_line count)
             (open_seen self)) }
@@ -282,7 +286,7 @@ impl OpenScript {
         }
     }
 
-    #[tactic(auto, unfolding(crate::specs::inside::Chains::script_step), using(crate::proofs::lemmas::Steps::Failures::fails_same, crate::proofs::lemmas::OpenScripts::Lines::first_arm))]
+    #[tactic(auto, unfolding(crate::specs::inside::LineSteps::script_step), using(crate::proofs::lemmas::Steps::Failures::fails_same, crate::proofs::lemmas::OpenScripts::Lines::first_arm))]
     fn first_arm(
         mut self,
         alloc: Global,
@@ -308,7 +312,7 @@ impl OpenScript {
         Ok(self.with_block(alloc, opener)?)
     }
 
-    #[tactic(auto, unfolding(crate::specs::inside::Chains::script_step), using(crate::proofs::lemmas::Steps::Failures::fails_same))]
+    #[tactic(auto, unfolding(crate::specs::inside::LineSteps::script_step), using(crate::proofs::lemmas::Steps::Failures::fails_same))]
     fn next_arm(
         mut self,
         alloc: Global,
@@ -360,7 +364,7 @@ impl OpenScript {
     }
 
     // The end of a send without arms.
-    #[tactic(auto, unfolding(crate::specs::inside::Chains::script_step), using(crate::proofs::lemmas::OpenScripts::Lines::armless_closes))]
+    #[tactic(auto, unfolding(crate::specs::inside::LineSteps::script_step), using(crate::proofs::lemmas::OpenScripts::Lines::armless_closes))]
     fn armless_done(
         mut self,
         alloc: Global,
@@ -381,7 +385,7 @@ impl OpenScript {
     }
 
     // The end of the innermost body.
-    #[tactic(auto, unfolding(crate::specs::inside::Chains::script_step))]
+    #[tactic(auto, unfolding(crate::specs::inside::LineSteps::script_step))]
     fn body_done(mut self, line: u32) -> Result<Self, ReadError>
         requires { self.armless ≡ None }
         ensures { Gives open_seen result (script_step line [] done_line (open_seen self)) }
@@ -398,7 +402,7 @@ impl OpenScript {
         Ok(self)
     }
 
-    #[tactic(auto, unfolding(crate::specs::inside::Chains::script_step))]
+    #[tactic(auto, unfolding(crate::specs::inside::LineSteps::script_step))]
     fn break_out(mut self, line: u32) -> Result<Self, ReadError>
         ensures { Gives open_seen result (script_step line [] break_line (open_seen self)) }
     {
@@ -414,7 +418,7 @@ impl OpenScript {
         Ok(self)
     }
 
-    #[tactic(auto, unfolding(crate::specs::inside::Chains::script_step))]
+    #[tactic(auto, unfolding(crate::specs::inside::LineSteps::script_step))]
     fn stop(mut self, line: u32, word: Word) -> Result<Self, ReadError>
         ensures { Gives open_seen result (script_step line [] (stop_line word.bytes)
             (open_seen self)) }
@@ -488,7 +492,9 @@ fn arm_fault(
     arms: usize,
     test: Test,
 ) -> Option<ReadError>
-    ensures { result ≡ arm_fault line keys.now test command arms }
+    ensures { result ≡ first_fault line (not (stands_under command test)) false
+        (not (is_test_declared keys.now test)) false
+        (if nat_le MOST_ARMS arms then Some Arms else None) }
 {
     if !stands_under(command, test) {
         return Some(ReadError::Syntax { line });

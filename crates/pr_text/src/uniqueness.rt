@@ -3,13 +3,13 @@
 ghost use Rattle.std.specs.Prelude.{◌≡◌, ◌==◌};
 ghost use Rattle.std.specs.List.{list_any};
 ghost use Rattle.pr_attention.specs.Attentions.{code_of};
-ghost use Rattle.pr_text.specs.inside.Chains.{are_codes_distinct};
+ghost use Rattle.pr_roles.specs.Fitting.{are_distinct};
 
 use pr_attention::Attention;
 
 /// Whether no two attentions are equal.
 pub fn are_codes_distinct(attentions: &[Attention]) -> bool
-    ensures { result ≡ are_codes_distinct attentions.now }
+    ensures { result ≡ are_distinct (λ x y. code_of x == code_of y) attentions.now }
 {
     let mut rest = attentions;
     while let Some((first, others)) = rest.split_first() {

@@ -1,9 +1,8 @@
 -- What is declared of nexuses, by their numbers.
-use Rattle.pr_text.proofs.Common.{◌≡◌, ℕ, ◌+◌, ◌<◌, Bool, cond, List, [], ◌∷◌, map, length, slice_index_or, slice_set, Some, Option, option_map, position, bytes_eq, sym, refl, ap, ◌∙◌, slice_get, position_from, position_from-zero, Declared, Declaration, declared_keys, number_of, Fails, ReadError, start_fault, start_placed, draft_seen}
+use Rattle.pr_text.proofs.Common.{◌≡◌, ℕ, ◌+◌, ◌<◌, Bool, cond, List, [], ◌∷◌, map, length, slice_index_or, slice_set, Some, option_map, position, bytes_eq, sym, refl, ap, ◌∙◌, slice_get, position_from, position_from-zero, draft_seen}
 use Rattle.std.proofs.lemmas.List.{map-set}
 use Rattle.std.proofs.lemmas.Option.{slice_get-map, slice_get-get_or}
 use Rattle.pr_text.specs.declared.draft.Draft.{Draft}
-use Rattle.pr_text.proofs.lemmas.Steps.Failures.{fails_same}
 
 pub found : (xs : List Draft) (h : ℕ) (d : Draft) → h < length xs → slice_get (map draft_seen xs) h ≡ Some (draft_seen (slice_index_or xs h d))
 found xs h d within = slice_get-map draft_seen xs h ∙ ap (λ o. option_map draft_seen o) (slice_get-get_or xs h d within)
@@ -20,9 +19,3 @@ pub position_of : (xs : List Draft) (name : List ℕ) → position (λ x. bytes_
 position_of xs name =
     position_from-zero (λ x. bytes_eq x.name name) (map draft_seen xs)
     ∙ (position_of_from (λ n. bytes_eq n name) 0 xs ∙ sym (position_from-zero (λ x. bytes_eq x.name.bytes name) xs))
-
-pub start_fails : (n : ℕ) (name : List ℕ) (xs : List (Option ℕ)) (d : Declared) (h : ℕ) (x : Declaration) (e : ReadError)
-    → number_of d.nexuses name ≡ Some h → slice_get d.nexuses h ≡ Some x → start_fault n (declared_keys d) x xs ≡ Some e
-    → Fails e (start_placed n name xs d)
-unfolding start_placed
-start_fails n name xs d h x e named there faulty = rw (named, there, faulty) (fails_same Declared e)

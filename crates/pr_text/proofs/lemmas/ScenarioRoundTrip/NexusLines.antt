@@ -1,5 +1,5 @@
 -- The lines of one nexus have no fault.
-use Rattle.pr_text.proofs.Common.{◌≡◌, ℕ, suc, ◌+◌, ◌≤◌, Bool, true, false, cond, not, ◌&&◌, ◌||◌, List, [], ◌∷◌, ◌++◌, map, length, is_some, nat_lt, nat_le, ◌==◌, Some, None, Ok, Err, fold, filter, Option, Result, bytes_eq, sym, refl, ap, ◌∙◌, append_assoc, append-nil, arith, length-append, list_all, list_any, unwrap_or, and_parts, nat_tests, Command, Attention, Held, is_written, is_name, MOST_BUDGET, is_version, is_count, are_distinct, is_action, is_role, is_start, is_nexus, Nexus, Task, Scripted, Planned, MOST_CLAUSES, MOST_PLANNED, MOST_REFUSALS, Clause, ScenarioLine, declares, start_line, pending_line, refusals_line, role_line, script_line, plan_line, end_line, command_line, since, RefusalKind, and_from, leb-true, Declared, WrittenTask, scripted, planned, Declaration, OpenLines, Context, outside, in_script, in_plan, codes_of, count_in, and_then, with_count, with_task, begun_script, item_placed, task_written, body_lines, all_said, ReadError, are_codes_distinct, start_placed, pending_placed, refusals_placed, role_placed, script_placed, plan_placed, planned_step, item_standing, not-true, or_parts}
+use Rattle.pr_text.proofs.Common.{◌≡◌, ℕ, suc, ◌+◌, ◌≤◌, Bool, true, false, cond, not, ◌&&◌, ◌||◌, List, [], ◌∷◌, ◌++◌, map, length, is_some, nat_lt, nat_le, ◌==◌, Some, None, Ok, Err, fold, filter, Option, Result, bytes_eq, sym, refl, ap, ◌∙◌, append_assoc, append-nil, arith, length-append, list_all, list_any, unwrap_or, and_parts, nat_tests, Command, Attention, Held, is_written, is_name, MOST_BUDGET, is_version, is_count, are_distinct, is_action, is_role, is_start, is_nexus, Nexus, Task, Scripted, Planned, MOST_CLAUSES, MOST_PLANNED, MOST_REFUSALS, Clause, ScenarioLine, declares, start_line, pending_line, refusals_line, role_line, script_line, plan_line, end_line, command_line, since, RefusalKind, and_from, leb-true, Declared, WrittenTask, scripted, planned, Declaration, OpenLines, Context, outside, in_script, in_plan, codes_of, count_in, and_then, with_count, with_task, begun_script, item_placed, task_written, body_lines, all_said, ReadError, number_of, item_standing, not-true, or_parts}
 use Rattle.std.specs.FinSet as set
 use Rattle.std.proofs.lemmas.Bool.{or_from, not_from_false}
 use Rattle.std.proofs.Math.Bool.{and-false}
@@ -10,7 +10,6 @@ use Rattle.pr_script.specs.Grammar.{script_fits}
 use Rattle.pr_roles.specs.Fitting.{is_alternative, is_same_alternative, is_task, is_task_of}
 use Rattle.pr_lines.specs.declared.item.RefusalKind.TheVariants as refusal
 use Rattle.pr_lines.specs.CommandWords.{without_keys}
-use Rattle.pr_text.specs.inside.Chains.{at_name, start_at, pending_at, refusals_at, role_at, script_at, plan_at}
 use Rattle.pr_text.specs.ScriptRoundTrip.{Line, line, script_said}
 use Rattle.pr_text.specs.ScenarioRoundTrip.{attentions_in, pending_said, refusals_said, task_said, details_said}
 use Rattle.pr_text.proofs.lemmas.ScriptRoundTrip.Lines.{goes, reread}
@@ -107,7 +106,7 @@ apart_still same p (x ∷ xs) h =
     let parts = and_parts (not (list_any (λ y. same y x) xs)) _ h in
     apart_in (p x) same x (filter p xs) (any_fewer p (λ y. same y x) xs (not-true _ parts.0)) (apart_still same p xs parts.1)
 
-attentions_apart : (codes : Codes) → are_codes_distinct (attentions_in codes) ≡ true
+attentions_apart : (codes : Codes) → are_distinct (λ x y. code_of x == code_of y) (attentions_in codes) ≡ true
 attentions_apart codes = apart_still (λ x y. code_of x == code_of y) (λ x. set.contains codes (code_of x)) each_attention refl
 
 -- what is kept of attentions that are written, if any are
@@ -165,26 +164,24 @@ module _ (n version : ℕ) (dated : is_version version ≡ true) (keys : Option 
   old : nat_lt version 1 ≡ false
   old = has_first version dated
 
-  found : (x : Declaration) (p : Context) (step : ℕ → Declaration → Result Declared ReadError) → bytes_eq x.name name ≡ true → at_name n (with x p) name step ≡ step (length before) x
-  found x p step it = rw (number_there before x after name free it, element_there before x after) refl
+  number : (x : Declaration) → bytes_eq x.name name ≡ true → number_of (before ++ x ∷ after) name ≡ Some (length before)
+  number x it = number_there before x after name free it
 
   start_goes : (guest : Bool) (xs : List (Option ℕ)) → list_all (is_alternative (unwrap_or keys [])) xs ≡ true → are_distinct is_same_alternative xs ≡ true
       → item_standing n (declares (start_line name xs)) (with (early n name guest None None) outside) ≡ Ok (with (early n name guest (Some xs) None) outside)
-  unfolding item_standing start_placed
+  unfolding item_standing
   start_goes guest xs known once =
       let x = early n name guest None None in
-      found x outside (start_at n xs (with x outside)) (itself name)
-      ∙ rw (known, once, set-append_seam before x after (early n name guest (Some xs) None)) refl
+      rw (number x (itself name), element_there before x after, known, once, set-append_seam before x after (early n name guest (Some xs) None)) refl
 
-  pending_line_goes : (guest : Bool) (s : Option (List (Option ℕ))) (xs : List Attention) (codes : Codes) → are_codes_distinct xs ≡ true → codes_of xs ≡ codes
+  pending_line_goes : (guest : Bool) (s : Option (List (Option ℕ))) (xs : List Attention) (codes : Codes) → are_distinct (λ x y. code_of x == code_of y) xs ≡ true → codes_of xs ≡ codes
       → item_standing n (declares (pending_line name xs)) (with (early n name guest s None) outside) ≡ Ok (with (early n name guest s (Some codes)) outside)
-  unfolding item_standing pending_placed
+  unfolding item_standing
   pending_line_goes guest s xs codes once same =
       let x = early n name guest s None in
-      found x outside (pending_at n xs (with x outside)) (itself name)
-      ∙ rw (once, same, set-append_seam before x after (early n name guest s (Some codes))) refl
+      rw (number x (itself name), element_there before x after, once, same, set-append_seam before x after (early n name guest s (Some codes))) refl
 
-  pending_goes : (guest : Bool) (s : Option (List (Option ℕ))) (xs : List Attention) (codes : Codes) → are_codes_distinct xs ≡ true → codes_of xs ≡ codes
+  pending_goes : (guest : Bool) (s : Option (List (Option ℕ))) (xs : List Attention) (codes : Codes) → are_distinct (λ x y. code_of x == code_of y) xs ≡ true → codes_of xs ≡ codes
       → all_said (pending_said n name xs) (with (early n name guest s None) outside) ≡ Ok (with (early n name guest s (pending_kept xs codes)) outside)
   pending_goes guest s [] codes once same = refl
   pending_goes guest s (a ∷ xs) codes once same =
@@ -203,10 +200,8 @@ module _ (n version : ℕ) (dated : is_version version ≡ true) (keys : Option 
 
   refusals_line_goes : (r : RefusalKind) (count : ℕ) (x : Declaration) → bytes_eq x.name name ≡ true → is_some (count_in r x) ≡ false → (nat_le 1 count && nat_le count MOST_REFUSALS) ≡ true
       → item_standing n (declares (refusals_line r name count)) (with x outside) ≡ Ok (with (with_count r count x) outside)
-  unfolding item_standing refusals_placed
-  refusals_line_goes r count x it none few =
-      found x outside (refusals_at n r count (with x outside)) it
-      ∙ rw (none, few, set-append_seam before x after (with_count r count x)) refl
+  unfolding item_standing
+  refusals_line_goes r count x it none few = rw (number x it, element_there before x after, none, few, set-append_seam before x after (with_count r count x)) refl
 
   refusals_go : (r : RefusalKind) (count : ℕ) (x : Declaration) → bytes_eq x.name name ≡ true → is_some (count_in r x) ≡ false → is_count version count ≡ true
       → all_said (refusals_said n name r count) (with x outside) ≡ Ok (with (counted_as r count x) outside)
@@ -256,11 +251,10 @@ module _ (n version : ℕ) (dated : is_version version ≡ true) (keys : Option 
 
   role_goes : (guest : Bool) (s : Option (List (Option ℕ))) (p : Option Codes) (b f : Option ℕ) (done : List Clause) (c : Clause) → is_action (unwrap_or keys []) c.action ≡ true → nat_le MOST_CLAUSES (length done) ≡ false
       → item_standing n (declares (role_line name c)) (with (staged n name guest s p b f done None) outside) ≡ Ok (with (staged n name guest s p b f (done ++ c ∷ []) None) outside)
-  unfolding item_standing role_placed
+  unfolding item_standing
   role_goes guest s p b f done c known short =
       let x = staged n name guest s p b f done None in
-      found x outside (role_at n c (with x outside)) (itself name)
-      ∙ rw (known, short, set-append_seam before x after (staged n name guest s p b f (done ++ c ∷ []) None)) refl
+      rw (number x (itself name), element_there before x after, known, short, set-append_seam before x after (staged n name guest s p b f (done ++ c ∷ []) None)) refl
 
   roles_go : (guest : Bool) (s : Option (List (Option ℕ))) (p : Option Codes) (b f : Option ℕ) (done cs : List Clause) → list_all (λ c. is_action (unwrap_or keys []) c.action) cs ≡ true → length done + length cs ≤ MOST_CLAUSES
       → all_said (map (λ c. line n (declares (role_line name c))) cs) (with (staged n name guest s p b f done None) outside) ≡ Ok (with (staged n name guest s p b f (done ++ cs) None) outside)
@@ -282,10 +276,10 @@ module _ (n version : ℕ) (dated : is_version version ≡ true) (keys : Option 
 
   script_begins : (s : Option (List (Option ℕ))) (p : Option Codes) (b f : Option ℕ) (r : List Clause) (budget : ℕ) → (nat_le 1 budget && nat_le budget MOST_BUDGET) ≡ true
       → item_standing n (declares (script_line name budget)) (with (staged n name false s p b f r None) outside) ≡ Ok (with (staged n name false s p b f r None) (in_script (begun_script (length before) budget)))
-  unfolding item_standing script_placed
+  unfolding item_standing
   script_begins s p b f r budget fits =
       let x = staged n name false s p b f r None in
-      found x outside (script_at n budget (with x outside)) (itself name) ∙ rw fits refl
+      rw (number x (itself name), element_there before x after, fits) refl
 
   script_ends : (x : Declaration) (o : OpenLines) → o.blocks ≡ [] → o.host ≡ length before → item_standing n end_line (with x (in_script o)) ≡ Ok (with (tasked_as (scripted o.lines o.budget) x) outside)
   unfolding item_standing
@@ -295,14 +289,14 @@ module _ (n version : ℕ) (dated : is_version version ≡ true) (keys : Option 
 
   plan_begins : (s : Option (List (Option ℕ))) (p : Option Codes) (b f : Option ℕ) (r : List Clause)
       → item_standing n (declares (plan_line name)) (with (staged n name true s p b f r None) outside) ≡ Ok (with (staged n name true s p b f r None) (in_plan (length before) []))
-  unfolding item_standing plan_placed
+  unfolding item_standing
   plan_begins s p b f r =
       let x = staged n name true s p b f r None in
-      found x outside (plan_at n (with x outside)) (itself name)
+      rw (number x (itself name), element_there before x after) refl
 
   command_goes : (x : Declaration) (h : ℕ) (done : List Command) (c : Command) → is_written (unwrap_or keys []) c ≡ true → nat_le MOST_PLANNED (length done) ≡ false
       → item_standing n (command_line (without_keys c)) (with x (in_plan h done)) ≡ Ok (with x (in_plan h (done ++ c ∷ [])))
-  unfolding item_standing planned_step
+  unfolding item_standing
   command_goes x h done c written short = rw (written, short) refl
 
   commands_go : (x : Declaration) (h : ℕ) (done cs : List Command) → list_all (is_written (unwrap_or keys [])) cs ≡ true → length done + length cs ≤ MOST_PLANNED

@@ -1,5 +1,5 @@
 -- The lines of a whole scenario have no fault.
-use Rattle.pr_text.proofs.Common.{◌≡◌, ℕ, zero, suc, ◌+◌, ◌<◌, ◌≤◌, Bool, true, false, not, ◌&&◌, List, [], ◌∷◌, ◌++◌, map, length, is_some, nat_lt, nat_le, ◌==◌, Some, None, Ok, Option, option_map, bytes_eq, sym, refl, ap, ◌∙◌, append_assoc, append-nil, arith, length-append, list_all, slice_get, option_map_or, unwrap_or, and_parts, nat_tests, Held, is_version, are_resets, most_declared, are_distinct, is_nexus, Nexus, Task, Scripted, Planned, first_under, MOST_RESETS, each, fence_line, declares, resets_line, keys_line, reservation_line, generation_line, since, leb-true, Declared, nothing, Declaration, outside, held_of, number_of, nexus_written, nexus_declared, all_said, start_of, first_unscripted, end_placed, item_standing, keys_placed, nexus_placed, reservation_placed, generation_placed, resets_placed}
+use Rattle.pr_text.proofs.Common.{◌≡◌, ℕ, zero, suc, ◌+◌, ◌<◌, ◌≤◌, Bool, true, false, not, ◌&&◌, List, [], ◌∷◌, ◌++◌, map, length, is_some, nat_lt, nat_le, ◌==◌, Some, None, Ok, Option, option_map, bytes_eq, sym, refl, ap, ◌∙◌, append_assoc, append-nil, arith, length-append, list_all, slice_get, option_map_or, unwrap_or, and_parts, nat_tests, Held, is_version, are_resets, most_declared, are_distinct, is_nexus, Nexus, Task, Scripted, Planned, first_under, MOST_RESETS, each, fence_line, declares, resets_line, keys_line, reservation_line, generation_line, since, leb-true, Declared, nothing, Declaration, outside, held_of, number_of, nexus_written, nexus_declared, all_said, start_of, first_unscripted, end_placed, item_standing}
 use Rattle.std.specs.List.{All, flat_map}
 use Rattle.std.proofs.lemmas.Bool.{ltb-true}
 use Rattle.std.proofs.lemmas.List.Elements.{All-head, All-tail}
@@ -32,7 +32,7 @@ keys_same (k ∷ ks) = refl
 
 keys_go : (n version : ℕ) (keys : List ℕ) → are_distinct (λ j k. j == k) keys ≡ true → nat_lt MOST_KEYS (length keys) ≡ false
     → item_standing n (declares (keys_line keys)) (placed version None None None None [] outside) ≡ Ok (placed version (Some keys) None None None [] outside)
-unfolding item_standing keys_placed
+unfolding item_standing
 keys_go n version keys once few = rw (once, few) refl
 
 keys_lines_go : (n version : ℕ) (keys : List ℕ) → is_version version ≡ true → AreDeclared keys → all_said (keys_said n keys) (placed version None None None None [] outside) ≡ Ok (placed version (keys_kept keys) None None None [] outside)
@@ -43,7 +43,7 @@ keys_lines_go n version (k ∷ ks) dated h =
 
 generation_goes : (n version generation : ℕ) (keys : Option (List ℕ)) (xs : List Declaration)
     → item_standing n (declares (generation_line generation)) (placed version keys None None None xs outside) ≡ Ok (placed version keys None (Some generation) None xs outside)
-unfolding item_standing generation_placed
+unfolding item_standing
 generation_goes n version generation keys xs = refl
 
 -- a version that has resets, and how many
@@ -58,7 +58,7 @@ module _ (n version : ℕ) (keys : Option (List ℕ)) (g : Option ℕ) (xs : Lis
   with_resets rs = placed version keys None g rs xs outside
 
   resets_line_goes : (count : ℕ) → (nat_le 1 count && nat_le count MOST_RESETS) ≡ true → item_standing n (declares (resets_line count)) (with_resets None) ≡ Ok (with_resets (Some count))
-  unfolding item_standing resets_placed
+  unfolding item_standing
   resets_line_goes count few = rw few refl
 
   resets_go : (count : ℕ) → are_resets version count ≡ true → all_said (resets_said n count) (with_resets None) ≡ Ok (with_resets (count_said count))
@@ -75,7 +75,7 @@ named ns = map (λ x. x.name) ns
 
 nexus_goes : (n version : ℕ) (keys : Option (List ℕ)) (before : List Declaration) (x : Nexus) → is_taken x.name before ≡ false → nat_le (most_declared version) (length before) ≡ false
     → item_standing n (task_line x.name x.task) (placed version keys None None None before outside) ≡ Ok (placed version keys None None None (before ++ bare n x ∷ []) outside)
-unfolding item_standing nexus_placed
+unfolding item_standing
 nexus_goes n version keys before x free few =
     by_task x.task refl
   where
@@ -149,7 +149,7 @@ helds_go n ns (v ∷ vs) apart fits =
 reservation_goes : (n version : ℕ) (keys : Option (List ℕ)) (g rs : Option ℕ) (ns : List Nexus) (vs : List (Option Held)) → are_distinct bytes_eq (named ns) ≡ true
     → list_all (is_reservation (length ns)) vs ≡ true → are_distinct is_same_reservation vs ≡ true
     → item_standing n (declares (reservation_line (map (wanted_by ns) vs))) (placed version keys None g rs (map (bare n) ns) outside) ≡ Ok (placed version keys (Some vs) g rs (map (bare n) ns) outside)
-unfolding item_standing reservation_placed
+unfolding item_standing
 reservation_goes n version keys g rs ns vs apart fits once = rw (helds_go n ns vs apart fits, once) refl
 
 -- ---- the end

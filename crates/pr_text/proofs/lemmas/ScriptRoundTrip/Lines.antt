@@ -5,11 +5,15 @@ use Rattle.pr_script.specs.Grammar.{stands_under, is_test_declared, has_sense_di
 use Rattle.pr_lines.specs.CommandWords.{without_keys}
 use Rattle.pr_text.specs.Declarations.{repeating}
 use Rattle.pr_text.specs.Standing.{is_in_repeat, may_close}
-use Rattle.pr_text.specs.inside.Chains.{all_stepped}
 use Rattle.pr_text.specs.ScriptRoundTrip.{ScriptsHaveNoFault, said_by, number_of_line, script_said, within}
 use Rattle.pr_text.proofs.lemmas.Sound.Trees.{one_more, as_many}
-use Rattle.pr_text.proofs.lemmas.LineFaults.Order.{in_version}
+use Rattle.pr_text.proofs.lemmas.LineFaults.Order.{in_version, stated}
 use Rattle.pr_text.proofs.lemmas.ScriptRoundTrip.Versions.{body_dated, has_line}
+
+-- what the lines make of an open script, one after another, under these declared keys
+abbrev all_stepped : ℕ → List ℕ → List ScriptLine → OpenLines → Result OpenLines ReadError
+all_stepped n keys [] o = Ok o
+all_stepped n keys (l ∷ ls) o = and_then (script_step (number_of_line n l) keys (said_by l) o) (all_stepped n keys ls)
 
 -- an open script by its parts
 abbrev open_at : ℕ → ℕ → List ScriptLine → ℕ → List OpenBlock → Bool → OpenLines
@@ -234,9 +238,7 @@ mutual
 
 taken : (n : ℕ) (d : Declared) (l : ScriptLine) (o : OpenLines)
     → item_standing (number_of_line n l) (states (said_by l)) (within d o) ≡ and_then (script_step (number_of_line n l) (declared_keys d) (said_by l) o) (λ q. Ok (within d q))
-unfolding item_standing
-taken n d (send_at m c) o = refl
-taken n d _ o = refl
+taken n d l o = stated (number_of_line n l) (said_by l) o d
 
 step_then : (n : ℕ) (d : Declared) (r : Result OpenLines ReadError) (ls : List ScriptLine)
     → ((o : OpenLines) → all_said (script_said n ls) (within d o) ≡ and_then (all_stepped n (declared_keys d) ls o) (λ q. Ok (within d q)))

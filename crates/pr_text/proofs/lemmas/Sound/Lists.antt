@@ -1,5 +1,5 @@
 -- Keys, nexuses, and reservations stay sound with one line more.
-use Rattle.pr_text.proofs.Common.{◌≡◌, ℕ, suc, ◌+◌, ◌<◌, Bool, true, false, cond, not, ◌&&◌, ◌||◌, List, [], ◌∷◌, ◌++◌, map, length, is_some, nat_lt, nat_le, ◌==◌, Some, None, Ok, Option, option_map, position, option_and_then, bytes_eq, sym, refl, ap, ◌∙◌, subst, arith, length-append, list_all, list_any, position_from, unwrap_or, and_parts, false≢true, nat_tests, position_from-zero, Command, Held, is_written, test_fits, is_name, Test, are_distinct, is_action, is_role, is_start, MOST_CLAUSES, MOST_PLANNED, Clause, each, and_from, Declared, WrittenTask, scripted, planned, Declaration, outside, OpenBlock, sending, declared_keys, held_of, number_of, ScriptLine, arm_on, send_at, awaits_arm, start_of, keys_placed, nexus_placed, reservation_placed, IsTask, IsDeclaration, AreDeclarations, IsSound, Reached, may, may_all, IsPlace, not-false, or_parts}
+use Rattle.pr_text.proofs.Common.{◌≡◌, ℕ, suc, ◌+◌, ◌<◌, Bool, true, false, cond, not, ◌&&◌, ◌||◌, List, [], ◌∷◌, ◌++◌, map, length, is_some, nat_lt, nat_le, ◌==◌, Some, None, Option, option_map, position, option_and_then, bytes_eq, sym, refl, ap, ◌∙◌, subst, arith, length-append, list_all, list_any, position_from, unwrap_or, and_parts, false≢true, nat_tests, position_from-zero, Command, Held, is_written, test_fits, is_name, Test, are_distinct, is_action, is_role, is_start, MOST_CLAUSES, MOST_PLANNED, Clause, each, and_from, Declared, WrittenTask, scripted, planned, Declaration, outside, OpenBlock, sending, declared_keys, held_of, number_of, ScriptLine, arm_on, send_at, awaits_arm, start_of, IsTask, IsDeclaration, AreDeclarations, IsSound, Reached, may, may_all, IsPlace, not-false, or_parts, keys_line}
 use Rattle.std.proofs.lemmas.Bool.{false_from_ne_true, lt-ltb}
 use Rattle.std.proofs.lemmas.List.Sums.{AllPass-from_list_all}
 use Rattle.std.proofs.lemmas.Slice.Eq.{bytes_eq-Decides}
@@ -11,14 +11,16 @@ use Rattle.pr_script.specs.declared.script.Test.TheVariants as test
 use Rattle.pr_script.specs.Grammar.{is_written_key, is_declared, is_read_keys, is_read_reservation}
 use Rattle.pr_roles.specs.declared.role.Action.{Action}
 use Rattle.pr_roles.specs.declared.role.Action.TheVariants as action
-use Rattle.pr_roles.specs.Fitting.{are_reservations, is_reservation, is_alternative}
+use Rattle.std.specs.Prelude.{is_none}
+use Rattle.pr_roles.specs.Fitting.{are_reservations, is_reservation, is_same_reservation, is_alternative}
 use Rattle.pr_roles.specs.declared.limits.TheConstants.{MOST_KEYS}
 use Rattle.pr_lines.specs.ScenarioLines.{StartReservation, nobody, single, everybody}
-use Rattle.pr_text.specs.inside.Chains.{reservations_at}
 use Rattle.pr_text.specs.Texts.{reservations_of}
 use Rattle.pr_text.specs.inside.Sound.{at_first, may_arm, next}
 use Rattle.pr_lines.proofs.lemmas.ScenarioLines.Terms.{is_key, is_wanted}
-use Rattle.pr_text.proofs.lemmas.Sound.Scripts.{ok_same, past}
+use Rattle.pr_text.specs.LineFaults.{past_limit}
+use Rattle.pr_text.specs.NextLine.{with_more}
+use Rattle.pr_text.proofs.lemmas.Sound.Scripts.{skips}
 
 all_more : {A : Type 0} (p q : A → Bool) → ((x : A) → p x ≡ true → q x ≡ true) → (xs : List A) → list_all p xs ≡ true → list_all q xs ≡ true
 all_more p q each [] h = refl
@@ -119,24 +121,21 @@ none_of (Some x) h = cc
 few_keys : (n : ℕ) → nat_lt MOST_KEYS n ≡ false → nat_le n MOST_KEYS ≡ true
 few_keys n h = grind (arith, nat_tests)
 
-pub keys_sound : (n : ℕ) (keys : List ℕ) (d e : Declared) → d.place ≡ outside → list_all is_key keys ≡ true → IsSound n d → keys_placed (n + 1) keys d ≡ Ok e → IsSound (n + 1) e
-unfolding keys_placed
-keys_sound n keys d e at sound h r =
-    let a = past _ _ _ e r in
-    let b = past _ _ _ e a.1 in
-    let parts = or_parts (is_some d.keys) _ a.0 in
-    let same : record d { keys = Some keys } ≡ e = ok_same _ _ b.1 in
+pub keys_sound : (n : ℕ) (keys : List ℕ) (d : Declared) → d.place ≡ outside → list_all is_key keys ≡ true → IsSound n d
+    → (is_some d.keys || not (are_distinct (λ j k. j == k) keys)) ≡ false → past_limit d (keys_line keys) ≡ None → IsSound (n + 1) (record d { keys = Some keys })
+keys_sound n keys d at sound h once within =
+    let parts = or_parts (is_some d.keys) _ once in
     let before : declared_keys d ≡ [] = ap (λ o. unwrap_or o []) (none_of d.keys parts.0) in
-    subst (IsSound (n + 1)) same (record {
+    record {
       keys = record {
         each = λ k x below. key_is _ (AllPass-from_list_all is_key keys sound k x below);
-        once = and_from _ _ (few_keys (length keys) b.0) (not-false _ parts.1);
+        once = and_from _ _ (few_keys (length keys) (skips (nat_lt MOST_KEYS (length keys)) _ _ within).0) (not-false _ parts.1);
       };
       reservations = h.reservations;
       apart = h.apart;
       each = declarations_more keys d.nexuses (subst (λ ks. AreDeclarations ks d.nexuses) before h.each);
       place = subst (IsPlace keys (n + 1)) (sym at) tt;
-    })
+    }
 
 -- ---- names and numbers
 
@@ -209,27 +208,18 @@ declarations_with : (keys : List ℕ) (xs : List Declaration) (x : Declaration) 
 declarations_with keys [] x all is = (is, tt)
 declarations_with keys (y ∷ xs) x all is = (all.0, declarations_with keys xs x all.1 is)
 
-abbrev new_nexus : ℕ → Bool → List ℕ → Declaration
-new_nexus n guest name = record { name = name; line = n; is_guest = guest; start = None; pending = None; busy = None; full = None; role = []; task = None }
-
 pub one_long : (xs : List Declaration) (x : Declaration) → length (xs ++ x ∷ []) ≡ length xs + 1
 one_long xs x = omega (arith, length-append xs (x ∷ []))
 
-pub nexus_sound : (n : ℕ) (guest : Bool) (name : List ℕ) (d e : Declared) → d.place ≡ outside → is_name name ≡ true → IsSound n d → nexus_placed (n + 1) guest name d ≡ Ok e → IsSound (n + 1) e
-unfolding nexus_placed
-nexus_sound n guest name d e at named h r =
-    let a = past _ _ _ e r in
-    let b = past _ _ _ e a.1 in
-    let x = new_nexus (n + 1) guest name in
-    let same : record d { nexuses = d.nexuses ++ x ∷ [] } ≡ e = ok_same _ _ b.1 in
-    let fresh = number_none d.nexuses name a.0 in
-    subst (IsSound (n + 1)) same (record {
-      keys = h.keys;
-      reservations = rw (one_long d.nexuses x) (reservations_more (reservations_of d) (length d.nexuses) h.reservations);
-      apart = names_more d.nexuses x h.apart fresh;
-      each = declarations_with (declared_keys d) d.nexuses x h.each (record { described = and_from _ _ named refl; task = tt });
-      place = subst (IsPlace (declared_keys d) (n + 1)) (sym at) tt;
-    })
+pub nexus_sound : (n : ℕ) (guest : Bool) (name : List ℕ) (d : Declared) → d.place ≡ outside → is_name name ≡ true → IsSound n d → is_some (number_of d.nexuses name) ≡ false
+    → IsSound (n + 1) (with_more (n + 1) guest name d)
+nexus_sound n guest name d at named h free = record {
+  keys = h.keys;
+  reservations = rw (one_long d.nexuses _) (reservations_more (reservations_of d) (length d.nexuses) h.reservations);
+  apart = names_more d.nexuses _ h.apart (number_none d.nexuses name free);
+  each = declarations_with (declared_keys d) d.nexuses _ h.each (record { described = and_from _ _ named refl; task = tt });
+  place = subst (IsPlace (declared_keys d) (n + 1)) (sym at) tt;
+}
 
 -- ---- reservations
 
@@ -268,23 +258,21 @@ helds_sound xs (w ∷ ws) us s e =
 some_held : (n m : ℕ) → n ≡ m → not (m == 0) ≡ true → not (n == 0) ≡ true
 some_held n m e h = grind (arith, nat_tests)
 
-placed_helds : (n : ℕ) (ws : List StartReservation) (d e : Declared) (o : Option (List (Option Held))) → d.place ≡ outside → (not (length ws == 0) && list_all is_wanted ws) ≡ true → IsSound n d
-    → each (held_of d.nexuses) ws ≡ o → reservations_at (n + 1) d o ≡ Ok e → IsSound (n + 1) e
-placed_helds n ws d e None at s h is r = cc
-placed_helds n ws d e (Some vs) at s h is r =
-    let a = past _ _ _ e r in
-    let same : record d { reservations = Some vs } ≡ e = ok_same _ _ a.1 in
-    let wanted = and_parts (not (length ws == 0)) _ s in
-    let held = helds_sound d.nexuses ws vs wanted.1 is in
-    let apart = (or_parts (is_some d.reservations) _ a.0).1 in
-    subst (IsSound (n + 1)) same (record {
-      keys = h.keys;
-      reservations = and_from _ _ (some_held (length vs) (length ws) held.1 wanted.0) (and_from _ _ held.0 (not-false _ apart));
-      apart = h.apart;
-      each = h.each;
-      place = subst (IsPlace (declared_keys d) (n + 1)) (sym at) tt;
-    })
-
-pub reservation_sound : (n : ℕ) (ws : List StartReservation) (d e : Declared) → d.place ≡ outside → (not (length ws == 0) && list_all is_wanted ws) ≡ true → IsSound n d → reservation_placed (n + 1) ws d ≡ Ok e → IsSound (n + 1) e
-unfolding reservation_placed
-reservation_sound n ws d e at s h r = placed_helds n ws d e (each (held_of d.nexuses) ws) at s h refl r
+pub reservation_sound : (n : ℕ) (ws : List StartReservation) (d : Declared) → d.place ≡ outside → (not (length ws == 0) && list_all is_wanted ws) ≡ true → IsSound n d
+    → is_none (each (held_of d.nexuses) ws) ≡ false → (is_some d.reservations || not (are_distinct is_same_reservation (unwrap_or (each (held_of d.nexuses) ws) []))) ≡ false
+    → IsSound (n + 1) (record d { reservations = each (held_of d.nexuses) ws })
+reservation_sound n ws d at s h known once = by_helds (each (held_of d.nexuses) ws) refl known once
+  where
+    by_helds : (o : Option (List (Option Held))) → each (held_of d.nexuses) ws ≡ o → is_none o ≡ false → (is_some d.reservations || not (are_distinct is_same_reservation (unwrap_or o []))) ≡ false
+        → IsSound (n + 1) (record d { reservations = o })
+    by_helds None is none apart = cc
+    by_helds (Some vs) is known apart =
+        let wanted = and_parts (not (length ws == 0)) _ s in
+        let held = helds_sound d.nexuses ws vs wanted.1 is in
+        record {
+          keys = h.keys;
+          reservations = and_from _ _ (some_held (length vs) (length ws) held.1 wanted.0) (and_from _ _ held.0 (not-false _ (or_parts (is_some d.reservations) _ apart).1));
+          apart = h.apart;
+          each = h.each;
+          place = subst (IsPlace (declared_keys d) (n + 1)) (sym at) tt;
+        }

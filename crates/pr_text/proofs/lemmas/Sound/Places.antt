@@ -1,16 +1,17 @@
 -- What is declared stays sound with one line more.
-use Rattle.pr_text.proofs.Common.{◌≡◌, ℕ, zero, suc, ◌+◌, ◌≤◌, true, false, cond, not, ◌&&◌, List, [], ◌∷◌, ◌++◌, map, length, is_some, nat_le, ◌==◌, slice_set, Some, None, Ok, Err, Option, Result, sym, refl, ap, ◌∙◌, subst, arith, length-append, slice_get, and_parts, nat_tests, list_all-append, Command, Attention, is_written, is_name, MOST_BUDGET, is_action, is_role, MOST_CLAUSES, MOST_PLANNED, MOST_REFUSALS, MOST_RESETS, Clause, states, ScenarioLine, DeclaringLine, fence_line, declares, nexus_line, start_line, pending_line, refusals_line, resets_line, role_line, script_line, plan_line, end_line, command_line, keys_line, reservation_line, generation_line, RefusalKind, ParsedCommand, is_item, and_from, Declared, WrittenTask, scripted, planned, Declaration, OpenLines, Context, before_all, outside, in_script, in_plan, codes_of, count_in, declared_keys, number_of, and_then, with_count, with_task, begun_script, item_placed, ReadError, start_fault, start_placed, pending_placed, refusals_placed, role_placed, script_placed, plan_placed, planned_step, item_standing, script_step, generation_placed, resets_placed, IsTask, IsDeclaration, AreDeclarations, IsSound, IsPlace, le-leb, not-false, or_parts}
+use Rattle.pr_text.proofs.Common.{◌≡◌, ℕ, zero, suc, ◌+◌, ◌≤◌, true, false, cond, not, ◌&&◌, List, [], ◌∷◌, ◌++◌, map, length, is_some, nat_le, ◌==◌, slice_set, Some, None, Ok, Option, sym, refl, ap, ◌∙◌, subst, arith, length-append, slice_get, and_parts, nat_tests, list_all-append, Attention, is_written, is_name, MOST_BUDGET, is_action, is_role, MOST_CLAUSES, MOST_PLANNED, Clause, states, ScenarioLine, DeclaringLine, fence_line, declares, nexus_line, start_line, pending_line, refusals_line, resets_line, role_line, script_line, plan_line, end_line, command_line, keys_line, reservation_line, generation_line, RefusalKind, ParsedCommand, is_item, and_from, Declared, WrittenTask, scripted, planned, Declaration, Context, outside, in_script, in_plan, codes_of, declared_keys, number_of, with_count, with_task, begun_script, item_placed, IsTask, IsDeclaration, AreDeclarations, IsSound, IsPlace, le-leb, not-false, or_parts, StatementLine, option_map_or, with_statement_line, since, nat_lt, Bool}
 use Rattle.std.proofs.lemmas.List.{length-set}
 use Rattle.pr_lines.specs.declared.item.RefusalKind.TheVariants as refusal
 use Rattle.pr_text.specs.declared.fault.Which.TheVariants as which
 use Rattle.pr_text.specs.declared.fault.ReadError.TheVariants as fault
-use Rattle.pr_text.specs.LineFaults.{limit_of, command_fault}
-use Rattle.pr_text.specs.inside.Chains.{declared_with, nexus_set, on_nexus, at_number, at_name, start_at, pending_at, refusals_at, role_at, script_fault, script_at, plan_at, placed_first, placed_outside, script_ended, placed_in_script, placed_in_plan, placed_at, item_taken}
-use Rattle.pr_text.specs.Declaring.{is_spelled}
-use Rattle.pr_text.specs.inside.Sound.{AreBegun, is_plan}
-use Rattle.pr_text.proofs.lemmas.Sound.Scripts.{faultless, ok_same, past, kept, passes, skips, script_sound}
+use Rattle.pr_text.specs.LineFaults.{command_fault, declaring_fault, fault_at, first_fault, keys_undeclared, names_unknown, past_limit, says_again, standing_fault, statement_fault}
+use Rattle.pr_text.specs.NextLine.{with_declared, with_line, with_named}
+use Rattle.pr_text.specs.Standing.{by_place, of_plan, of_script}
+use Rattle.std.specs.Prelude.{is_none}
+use Rattle.pr_text.specs.Declaring.{holds_of, is_spelled, nexus_named}
+use Rattle.pr_text.specs.inside.Sound.{AreBegun}
+use Rattle.pr_text.proofs.lemmas.Sound.Scripts.{Faultless, faultless, passes, script_sound, skips, stands_outside}
 use Rattle.pr_text.proofs.lemmas.Sound.Lists.{keys_sound, nexus_sound, reservation_sound}
-use Rattle.pr_text.proofs.lemmas.LineFaults.Order.{in_order}
 
 -- ---- the same, at another place
 
@@ -46,56 +47,67 @@ changed n d h x y p sound there named is at =
       place = at;
     }
 
--- what a step on a nexus was made on
-record Named (n : ℕ) (d : Declared) (step : ℕ → Declaration → Result Declared ReadError) (e : Declared) : Type 0 where
+-- the nexus with a name that is declared
+record Named (d : Declared) (name : List ℕ) : Type 0 where
   number : ℕ
   nexus : Declaration
+  found : number_of d.nexuses name ≡ Some number
   there : slice_get d.nexuses number ≡ Some nexus
-  made : step number nexus ≡ Ok e
 
-named_nexus : (n : ℕ) (d e : Declared) (h : ℕ) (o : Option Declaration) (step : ℕ → Declaration → Result Declared ReadError) → slice_get d.nexuses h ≡ o → on_nexus n o (step h) ≡ Ok e → Named n d step e
-named_nexus n d e h None step is r = cc
-named_nexus n d e h (Some x) step is r = record { number = h; nexus = x; there = is; made = r }
+named : (d : Declared) (name : List ℕ) → is_none (nexus_named d name) ≡ false → Named d name
+named d name known = by_number (number_of d.nexuses name) refl
+  where
+    by_nexus : (h : ℕ) (o : Option Declaration) → number_of d.nexuses name ≡ Some h → slice_get d.nexuses h ≡ o → Named d name
+    by_nexus h None found there = let none : is_none (nexus_named d name) ≡ true = rw (found, there) refl in cc
+    by_nexus h (Some x) found there = record { number = h; nexus = x; found = found; there = there }
 
-named_number : (n : ℕ) (d e : Declared) (o : Option ℕ) (step : ℕ → Declaration → Result Declared ReadError) → at_number n d o step ≡ Ok e → Named n d step e
-named_number n d e None step r = cc
-named_number n d e (Some h) step r = named_nexus n d e h (slice_get d.nexuses h) step refl r
+    by_number : (o : Option ℕ) → number_of d.nexuses name ≡ o → Named d name
+    by_number None found = let none : is_none (nexus_named d name) ≡ true = rw found refl in cc
+    by_number (Some h) found = by_nexus h (slice_get d.nexuses h) found refl
 
-named : (n : ℕ) (d e : Declared) (name : List ℕ) (step : ℕ → Declaration → Result Declared ReadError) → at_name n d name step ≡ Ok e → Named n d step e
-named n d e name step r = named_number n d e (number_of d.nexuses name) step r
+-- one of which something holds
+holding : (d : Declared) (name : List ℕ) (p : Declaration → Bool) → not (holds_of d name p) ≡ false → Named d name
+holding d name p h = named d name (some (nexus_named d name) (not-false _ h))
+  where
+    some : (o : Option Declaration) → option_map_or p o false ≡ true → is_none o ≡ false
+    some None h = cc
+    some (Some x) h = refl
+
+-- what keeps this one sound keeps all that is declared so
+named_sound : (n : ℕ) (name : List ℕ) (f : Declaration → Declaration) (d : Declared) → d.place ≡ outside → IsSound n d → is_none (nexus_named d name) ≡ false
+    → ((x : Declaration) → nexus_named d name ≡ Some x → IsDeclaration (declared_keys d) x → ((f x).name ≡ x.name) × IsDeclaration (declared_keys d) (f x))
+    → IsSound (n + 1) (with_named d name f)
+named_sound n name f d at sound known each =
+    let m = named d name known in
+    let it : nexus_named d name ≡ Some m.nexus = rw (m.found, m.there) refl in
+    let next = each m.nexus it (declaration_at (declared_keys d) d.nexuses m.number m.nexus m.there sound.each) in
+    let same : record d { nexuses = slice_set d.nexuses m.number (f m.nexus) } ≡ with_named d name f = rw (m.found, m.there) refl in
+    subst (IsSound (n + 1)) same (changed n d m.number m.nexus (f m.nexus) d.place sound m.there next.0 next.1 (subst (IsPlace (declared_keys d) (n + 1)) (sym at) tt))
 
 -- ---- the lines outside
 
-start_sound : (n : ℕ) (name : List ℕ) (xs : List (Option ℕ)) (d e : Declared) → d.place ≡ outside → not (length xs == 0) ≡ true → IsSound n d → start_placed (n + 1) name xs d ≡ Ok e → IsSound (n + 1) e
-unfolding start_placed
-start_sound n name xs d e at some sound r =
-    let m = named (n + 1) d e name (start_at (n + 1) xs d) r in
-    let keys = declared_keys d in
-    let x = m.nexus in
-    let a = passes (start_fault (n + 1) keys x xs) (nexus_set d m.number (record x { start = Some xs })) e m.made in
-    let b = skips _ _ _ a.0 in
-    let c = skips _ _ _ b.1 in
-    let was = declaration_at keys d.nexuses m.number x m.there sound.each in
+-- what is wrong with the line is nothing
+abbrev IsClean : ℕ → DeclaringLine → Declared → Type 0
+IsClean n l d = declaring_fault n d l ≡ None
+
+clean : (n : ℕ) (l : DeclaringLine) (d : Declared) → IsClean n l d → Faultless false (names_unknown d l) (keys_undeclared d l) (says_again d l) (past_limit d l)
+clean n l d h = faultless n false (names_unknown d l) (keys_undeclared d l) (says_again d l) (past_limit d l) h
+
+start_sound : (n : ℕ) (name : List ℕ) (xs : List (Option ℕ)) (d : Declared) → d.place ≡ outside → not (length xs == 0) ≡ true → IsSound n d → IsClean (n + 1) (start_line name xs) d
+    → IsSound (n + 1) (with_declared (n + 1) d (start_line name xs))
+start_sound n name xs d at some sound h =
+    let b = clean (n + 1) (start_line name xs) d h in
+    let starts = and_from _ _ some (and_from _ _ (not-false _ b.declared) (not-false _ (or_parts (holds_of d name (λ x. is_some x.start)) _ b.once).1)) in
+    named_sound n name (λ x. record x { start = Some xs }) d at sound b.known (λ x is was.
     let parts = and_parts (is_name x.name) _ was.described in
-    let role = and_parts (is_role keys x.role) _ parts.1 in
-    let starts = and_from _ _ some (and_from _ _ (not-false _ b.0) (not-false _ (or_parts (is_some x.start) _ c.0).1)) in
-    subst (IsSound (n + 1)) a.1 (changed n d m.number x (record x { start = Some xs }) d.place sound m.there refl
-    (record { described = and_from _ _ parts.0 (and_from _ _ role.0 starts); task = was.task }) (subst (IsPlace keys (n + 1)) (sym at) tt))
+    let role = and_parts (is_role (declared_keys d) x.role) _ parts.1 in
+    (refl, record { described = and_from _ _ parts.0 (and_from _ _ role.0 starts); task = was.task }))
 
-pending_sound : (n : ℕ) (name : List ℕ) (xs : List Attention) (d e : Declared) → d.place ≡ outside → IsSound n d → pending_placed (n + 1) name xs d ≡ Ok e → IsSound (n + 1) e
-unfolding pending_placed
-pending_sound n name xs d e at sound r =
-    let m = named (n + 1) d e name (pending_at (n + 1) xs d) r in
-    let keys = declared_keys d in
-    let x = m.nexus in
-    let a = past _ _ _ e m.made in
-    let same : nexus_set d m.number (record x { pending = Some (codes_of xs) }) ≡ e = ok_same _ _ a.1 in
-    let was = declaration_at keys d.nexuses m.number x m.there sound.each in
-    subst (IsSound (n + 1)) same (changed n d m.number x (record x { pending = Some (codes_of xs) }) d.place sound m.there refl
-    (record { described = was.described; task = was.task }) (subst (IsPlace keys (n + 1)) (sym at) tt))
-
-few_more : (k : ℕ) → nat_le MOST_CLAUSES k ≡ false → k + 1 ≤ MOST_CLAUSES
-few_more k h = grind (arith, nat_tests)
+pending_sound : (n : ℕ) (name : List ℕ) (xs : List Attention) (d : Declared) → d.place ≡ outside → IsSound n d → IsClean (n + 1) (pending_line name xs) d
+    → IsSound (n + 1) (with_declared (n + 1) d (pending_line name xs))
+pending_sound n name xs d at sound h =
+    named_sound n name (λ x. record x { pending = Some (codes_of xs) }) d at sound (clean (n + 1) (pending_line name xs) d h).known
+    (λ x is was. (refl, record { described = was.described; task = was.task }))
 
 counted_name : (r : RefusalKind) (count : ℕ) (x : Declaration) → (with_count r count x).name ≡ x.name
 counted_name refusal.Busy count x = refl
@@ -105,21 +117,14 @@ counted_is : (keys : List ℕ) (r : RefusalKind) (count : ℕ) (x : Declaration)
 counted_is keys refusal.Busy count x was = record { described = was.described; task = was.task }
 counted_is keys refusal.Full count x was = record { described = was.described; task = was.task }
 
-refusals_sound : (n : ℕ) (r : RefusalKind) (name : List ℕ) (count : ℕ) (d e : Declared) → d.place ≡ outside → IsSound n d → refusals_placed (n + 1) r name count d ≡ Ok e → IsSound (n + 1) e
-unfolding refusals_placed
-refusals_sound n r name count d e at sound q =
-    let m = named (n + 1) d e name (refusals_at (n + 1) r count d) q in
-    let keys = declared_keys d in
-    let x = m.nexus in
-    let past_room = not (nat_le 1 count && nat_le count MOST_REFUSALS) in
-    let limit = fault.Limit (limit_of r) (n + 1) in
-    let after : Result Declared ReadError = Ok (nexus_set d m.number (with_count r count x)) in
-    let a = past (is_some (count_in r x)) (fault.Repeated (n + 1)) (cond past_room (Err limit) after) e m.made in
-    let b = past past_room limit after e a.1 in
-    let same : nexus_set d m.number (with_count r count x) ≡ e = ok_same _ _ b.1 in
-    let was = declaration_at keys d.nexuses m.number x m.there sound.each in
-    subst (IsSound (n + 1)) same (changed n d m.number x (with_count r count x) d.place sound m.there (counted_name r count x)
-    (counted_is keys r count x was) (subst (IsPlace keys (n + 1)) (sym at) tt))
+refusals_sound : (n : ℕ) (r : RefusalKind) (name : List ℕ) (count : ℕ) (d : Declared) → d.place ≡ outside → IsSound n d → IsClean (n + 1) (refusals_line r name count) d
+    → IsSound (n + 1) (with_declared (n + 1) d (refusals_line r name count))
+refusals_sound n r name count d at sound h =
+    named_sound n name (with_count r count) d at sound (clean (n + 1) (refusals_line r name count) d h).known
+    (λ x is was. (counted_name r count x, counted_is (declared_keys d) r count x was))
+
+few_more : (k : ℕ) → nat_le MOST_CLAUSES k ≡ false → k + 1 ≤ MOST_CLAUSES
+few_more k h = grind (arith, nat_tests)
 
 role_more : (keys : List ℕ) (clauses : List Clause) (c : Clause) → is_role keys clauses ≡ true → is_action keys c.action ≡ true → nat_le MOST_CLAUSES (length clauses) ≡ false → is_role keys (clauses ++ c ∷ []) ≡ true
 role_more keys clauses c h k few =
@@ -127,104 +132,62 @@ role_more keys clauses c h k few =
     and_from _ _ (le-leb (length (clauses ++ c ∷ [])) MOST_CLAUSES (omega (arith, length-append clauses (c ∷ []), few_more (length clauses) few)))
     (list_all-append (λ clause. is_action keys clause.action) clauses (c ∷ []) ∙ and_from _ _ parts.1 (and_from _ _ k refl))
 
-role_sound : (n : ℕ) (name : List ℕ) (clause : Clause) (d e : Declared) → d.place ≡ outside → IsSound n d → role_placed (n + 1) name clause d ≡ Ok e → IsSound (n + 1) e
-unfolding role_placed
-role_sound n name clause d e at sound r =
-    let m = named (n + 1) d e name (role_at (n + 1) clause d) r in
+role_sound : (n : ℕ) (name : List ℕ) (clause : Clause) (d : Declared) → d.place ≡ outside → IsSound n d → IsClean (n + 1) (role_line name clause) d
+    → IsSound (n + 1) (with_declared (n + 1) d (role_line name clause))
+role_sound n name clause d at sound h =
     let keys = declared_keys d in
-    let x = m.nexus in
-    let a = past _ _ _ e m.made in
-    let b = past _ _ _ e a.1 in
-    let same : nexus_set d m.number (record x { role = x.role ++ clause ∷ [] }) ≡ e = ok_same _ _ b.1 in
-    let was = declaration_at keys d.nexuses m.number x m.there sound.each in
+    let b = clean (n + 1) (role_line name clause) d h in
+    let few = (skips (holds_of d name (λ x. nat_le MOST_CLAUSES (length x.role))) _ _ b.within).0 in
+    named_sound n name (λ x. record x { role = x.role ++ clause ∷ [] }) d at sound b.known (λ x is was.
     let parts = and_parts (is_name x.name) _ was.described in
     let role = and_parts (is_role keys x.role) _ parts.1 in
-    let more = role_more keys x.role clause role.0 (not-false _ a.0) b.0 in
-    subst (IsSound (n + 1)) same (changed n d m.number x (record x { role = x.role ++ clause ∷ [] }) d.place sound m.there refl
-    (record { described = and_from _ _ parts.0 (and_from _ _ more role.1); task = was.task }) (subst (IsPlace keys (n + 1)) (sym at) tt))
+    let short = sym (ap (λ o. option_map_or (λ y. nat_le MOST_CLAUSES (length y.role)) o false) is) ∙ few in
+    let more = role_more keys x.role clause role.0 (not-false _ b.declared) short in
+    (refl, record { described = and_from _ _ parts.0 (and_from _ _ more role.1); task = was.task }))
 
-generation_sound : (n g : ℕ) (d e : Declared) → d.place ≡ outside → IsSound n d → generation_placed (n + 1) g d ≡ Ok e → IsSound (n + 1) e
-unfolding generation_placed
-generation_sound n g d e at sound r =
-    let a = past _ _ _ e r in
-    let same : record d { generation = Some g } ≡ e = ok_same _ _ a.1 in
-    subst (IsSound (n + 1)) same (record {
-      keys = sound.keys;
-      reservations = sound.reservations;
-      apart = sound.apart;
-      each = sound.each;
-      place = subst (IsPlace (declared_keys d) (n + 1)) (sym at) tt;
-    })
-
-resets_sound : (n count : ℕ) (d e : Declared) → d.place ≡ outside → IsSound n d → resets_placed (n + 1) count d ≡ Ok e → IsSound (n + 1) e
-unfolding resets_placed
-resets_sound n count d e at sound r =
-    let past_room = not (nat_le 1 count && nat_le count MOST_RESETS) in
-    let limit = fault.Limit which.Resets (n + 1) in
-    let after : Result Declared ReadError = Ok (record d { resets = Some count }) in
-    let a = past (is_some d.resets) (fault.Repeated (n + 1)) (cond past_room (Err limit) after) e r in
-    let b = past past_room limit after e a.1 in
-    let same : record d { resets = Some count } ≡ e = ok_same _ _ b.1 in
-    subst (IsSound (n + 1)) same (record {
-      keys = sound.keys;
-      reservations = sound.reservations;
-      apart = sound.apart;
-      each = sound.each;
-      place = subst (IsPlace (declared_keys d) (n + 1)) (sym at) tt;
-    })
+-- a line of something else than nexuses and keys
+aside : (n : ℕ) (d : Declared) (g rs : Option ℕ) → d.place ≡ outside → IsSound n d → IsSound (n + 1) (record d { generation = g; resets = rs })
+aside n d g rs at sound = record {
+  keys = sound.keys;
+  reservations = sound.reservations;
+  apart = sound.apart;
+  each = sound.each;
+  place = subst (IsPlace (declared_keys d) (n + 1)) (sym at) tt;
+}
 
 begun_sound : (keys : List ℕ) (n h budget : ℕ) → (nat_le 1 budget && nat_le budget MOST_BUDGET) ≡ true → AreBegun keys n (begun_script h budget)
 begun_sound keys n h budget room = record { standing = refl; reaching = refl; counted = refl; short = refl; rising = refl; passed = refl; budget = room }
 
-script_room : (n budget : ℕ) (x : Declaration) → script_fault n budget x ≡ None → (nat_le 1 budget && nat_le budget MOST_BUDGET) ≡ true
-script_room n budget x h =
-    let b = skips x.is_guest _ _ h in
-    let c = skips (is_some x.task) _ _ b.1 in
-    let g = skips (not (nat_le 1 budget && nat_le budget MOST_BUDGET)) _ _ c.1 in
-    not-false _ g.0
+script_line_sound : (n : ℕ) (name : List ℕ) (budget : ℕ) (d : Declared) → IsSound n d → IsClean (n + 1) (script_line name budget) d
+    → IsSound (n + 1) (with_declared (n + 1) d (script_line name budget))
+script_line_sound n name budget d sound h =
+    let b = clean (n + 1) (script_line name budget) d h in
+    let m = holding d name (λ x. not x.is_guest) b.known in
+    let room = not-false _ (skips (not (nat_le 1 budget && nat_le budget MOST_BUDGET)) _ _ b.within).0 in
+    rw m.found (moved n d (in_script (begun_script m.number budget)) sound (begun_sound (declared_keys d) (n + 1) m.number budget room))
 
-script_line_sound : (n : ℕ) (name : List ℕ) (budget : ℕ) (d e : Declared) → IsSound n d → script_placed (n + 1) name budget d ≡ Ok e → IsSound (n + 1) e
-unfolding script_placed
-script_line_sound n name budget d e sound r =
-    let m = named (n + 1) d e name (script_at (n + 1) budget d) r in
-    let a = passes (script_fault (n + 1) budget m.nexus) (record d { place = in_script (begun_script m.number budget) }) e m.made in
-    let room = script_room (n + 1) budget m.nexus a.0 in
-    subst (IsSound (n + 1)) a.1 (moved n d (in_script (begun_script m.number budget)) sound (begun_sound (declared_keys d) (n + 1) m.number budget room))
+plan_line_sound : (n : ℕ) (name : List ℕ) (d : Declared) → IsSound n d → IsClean (n + 1) (plan_line name) d → IsSound (n + 1) (with_declared (n + 1) d (plan_line name))
+plan_line_sound n name d sound h =
+    let m = holding d name (λ x. x.is_guest) (clean (n + 1) (plan_line name) d h).known in
+    rw m.found (moved n d (in_plan m.number []) sound refl)
 
-plan_line_sound : (n : ℕ) (name : List ℕ) (d e : Declared) → IsSound n d → plan_placed (n + 1) name d ≡ Ok e → IsSound (n + 1) e
-unfolding plan_placed
-plan_line_sound n name d e sound r =
-    let m = named (n + 1) d e name (plan_at (n + 1) d) r in
-    let a = past (not m.nexus.is_guest) _ _ e m.made in
-    let b = past (is_some m.nexus.task) _ _ e a.1 in
-    let same : record d { place = in_plan m.number [] } ≡ e = ok_same _ _ b.1 in
-    subst (IsSound (n + 1)) same (moved n d (in_plan m.number []) sound refl)
-
-declared_sound : (n : ℕ) (l : DeclaringLine) (d e : Declared) → d.place ≡ outside → IsSound n d → is_item (declares l) ≡ true → declared_with (n + 1) l d ≡ Ok e → IsSound (n + 1) e
-declared_sound n (keys_line keys) d e at h s r = keys_sound n keys d e at s h r
-declared_sound n (nexus_line guest name) d e at h s r = nexus_sound n guest name d e at s h r
-declared_sound n (start_line name xs) d e at h s r = start_sound n name xs d e at s h r
-declared_sound n (pending_line name xs) d e at h s r = pending_sound n name xs d e at h r
-declared_sound n (refusals_line r name count) d e at h s q = refusals_sound n r name count d e at h q
-declared_sound n (reservation_line ws) d e at h s r = reservation_sound n ws d e at s h r
-declared_sound n (generation_line g) d e at h s r = generation_sound n g d e at h r
-declared_sound n (resets_line count) d e at h s r = resets_sound n count d e at h r
-declared_sound n (role_line name clause) d e at h s r = role_sound n name clause d e at h r
-declared_sound n (script_line name budget) d e at h s r = script_line_sound n name budget d e h r
-declared_sound n (plan_line name) d e at h s r = plan_line_sound n name d e h r
-
-outside_sound : (n : ℕ) (i : ScenarioLine) (d e : Declared) → d.place ≡ outside → IsSound n d → is_item i ≡ true → placed_outside (n + 1) i d ≡ Ok e → IsSound (n + 1) e
-outside_sound n (declares l) d e at h s r = declared_sound n l d e at h s r
-outside_sound n _ d e at h s r = cc
+declared_sound : (n : ℕ) (l : DeclaringLine) (d : Declared) → d.place ≡ outside → IsSound n d → is_item (declares l) ≡ true → IsClean (n + 1) l d → IsSound (n + 1) (with_declared (n + 1) d l)
+declared_sound n (keys_line keys) d at sound s h = let b = clean (n + 1) (keys_line keys) d h in keys_sound n keys d at s sound b.once b.within
+declared_sound n (nexus_line guest name) d at sound s h = nexus_sound n guest name d at s sound (clean (n + 1) (nexus_line guest name) d h).once
+declared_sound n (start_line name xs) d at sound s h = start_sound n name xs d at s sound h
+declared_sound n (pending_line name xs) d at sound s h = pending_sound n name xs d at sound h
+declared_sound n (refusals_line r name count) d at sound s h = refusals_sound n r name count d at sound h
+declared_sound n (reservation_line ws) d at sound s h = let b = clean (n + 1) (reservation_line ws) d h in reservation_sound n ws d at s sound b.known b.once
+declared_sound n (generation_line g) d at sound s h = aside n d (Some g) d.resets at sound
+declared_sound n (resets_line count) d at sound s h = aside n d d.generation (Some count) at sound
+declared_sound n (role_line name clause) d at sound s h = role_sound n name clause d at sound h
+declared_sound n (script_line name budget) d at sound s h = script_line_sound n name budget d sound h
+declared_sound n (plan_line name) d at sound s h = plan_line_sound n name d sound h
 
 -- ---- the other lines
 
 versioned : (n version : ℕ) (d : Declared) → IsSound n d → IsSound n (record d { version = version })
 versioned n version d h = record { keys = h.keys; reservations = h.reservations; apart = h.apart; each = h.each; place = h.place }
-
-first_sound : (n : ℕ) (i : ScenarioLine) (d e : Declared) → IsSound n d → placed_first (n + 1) i d ≡ Ok e → IsSound (n + 1) e
-first_sound n (fence_line version) d e h r = subst (IsSound (n + 1)) (ok_same _ _ r) (moved n (record d { version = version }) outside (versioned n version d h) tt)
-first_sound n _ d e h r = cc
 
 task_at : (n : ℕ) (d : Declared) (h : ℕ) (t : WrittenTask) (o : Option Declaration) → slice_get d.nexuses h ≡ o → IsSound n d → IsTask (declared_keys d) (Some t)
     → IsSound (n + 1) (with_task d h t)
@@ -237,56 +200,45 @@ task_at n d h t (Some x) is sound fits =
     subst (λ xs. IsSound (n + 1) (record d { nexuses = xs; place = outside })) (sym same)
     (changed n d h x (record x { task = Some t }) outside sound is refl (record { described = was.described; task = fits }) tt)
 
-ended_sound : (n : ℕ) (o : OpenLines) (d e : Declared) → AreBegun (declared_keys d) n o → IsSound n d → script_ended (n + 1) o d ≡ Ok e → IsSound (n + 1) e
-ended_sound n o d e begun sound r =
-    let a = kept (length o.blocks == 0) _ _ e r in
-    subst (IsSound (n + 1)) a.1 (task_at n d o.host (scripted o.lines o.budget) (slice_get d.nexuses o.host) refl sound
-    (record { standing = begun.standing; short = rw (← begun.counted) begun.short; rising = begun.rising }, begun.budget))
-
-step_sound : (n : ℕ) (d e : Declared) (s : Result OpenLines ReadError) → IsSound n d → ((p : OpenLines) → s ≡ Ok p → AreBegun (declared_keys d) (n + 1) p)
-    → and_then s (λ p. Ok (record d { place = in_script p })) ≡ Ok e → IsSound (n + 1) e
-step_sound n d e (Ok p) h each r = subst (IsSound (n + 1)) (ok_same _ _ r) (moved n d (in_script p) h (each p refl))
-step_sound n d e (Err x) h each r = cc
-
-in_script_sound : (n : ℕ) (o : OpenLines) (i : ScenarioLine) (d e : Declared) → AreBegun (declared_keys d) n o → IsSound n d → is_item i ≡ true → placed_in_script (n + 1) o i d ≡ Ok e → IsSound (n + 1) e
-in_script_sound n o end_line d e begun h s r = ended_sound n o d e begun h r
-in_script_sound n o (states l) d e begun h s r =
-    step_sound n d e (script_step (n + 1) (declared_keys d) l o) h (λ p q. script_sound (declared_keys d) n l o p s begun q) r
-in_script_sound n o _ d e begun h s r = cc
+-- a statement's line, or a command's, leaves what is open sound
+stated_sound : (keys : List ℕ) (n : ℕ) (l : StatementLine) (p : Context) → is_item (states l) ≡ true → IsPlace keys n p
+    → of_script (Some (fault.Syntax (n + 1))) (λ o. statement_fault (n + 1) keys o l) p ≡ None → IsPlace keys (n + 1) (of_script p (λ o. in_script (with_statement_line (n + 1) l o)) p)
+stated_sound keys n l (in_script o) s at h = script_sound keys n l o s at h
+stated_sound keys n l _ s at h = cc
 
 fewer : (k : ℕ) → nat_le MOST_PLANNED k ≡ false → k + 1 ≤ MOST_PLANNED
 fewer k h = grind (arith, nat_tests)
 
-plan_more : (keys : List ℕ) (n : ℕ) (s : ParsedCommand) (commands after : List Command) → is_plan keys commands ≡ true → planned_step n keys s commands ≡ Ok after → is_plan keys after ≡ true
-unfolding planned_step
-plan_more keys n s commands after h r =
-    let a = passes (command_fault n keys commands s) (commands ++ s.command ∷ []) after r in
-    let b = faultless n false (not (is_spelled keys s)) (cond (nat_le MOST_PLANNED (length commands)) (Some which.Plan) None) a.0 in
-    let c = skips (nat_le MOST_PLANNED (length commands)) _ _ b.1.1 in
-    let parts = and_parts (nat_le (length commands) MOST_PLANNED) _ h in
-    let written = (and_parts (is_written keys s.command) _ (not-false _ b.1.0)).0 in
-    subst (λ cs. is_plan keys cs ≡ true) a.1
-    (and_from _ _ (le-leb (length (commands ++ s.command ∷ [])) MOST_PLANNED (omega (arith, length-append commands (s.command ∷ []), fewer (length commands) c.0)))
-    (list_all-append (is_written keys) commands (s.command ∷ []) ∙ and_from _ _ parts.1 (and_from _ _ written refl)))
+plan_sound : (keys : List ℕ) (n : ℕ) (s : ParsedCommand) (p : Context) → IsPlace keys n p
+    → of_plan (Some (fault.Syntax (n + 1))) (λ h commands. command_fault (n + 1) keys commands s) p ≡ None → IsPlace keys (n + 1) (of_plan p (λ h commands. in_plan h (commands ++ s.command ∷ [])) p)
+plan_sound keys n s (in_plan g commands) at h =
+    let b = faultless (n + 1) false false (not (is_spelled keys s)) false (cond (nat_le MOST_PLANNED (length commands)) (Some which.Plan) None) h in
+    let few = (skips (nat_le MOST_PLANNED (length commands)) _ _ b.within).0 in
+    let parts = and_parts (nat_le (length commands) MOST_PLANNED) _ at in
+    let written = (and_parts (is_written keys s.command) _ (not-false _ b.declared)).0 in
+    and_from _ _ (le-leb (length (commands ++ s.command ∷ [])) MOST_PLANNED (omega (arith, length-append commands (s.command ∷ []), fewer (length commands) few)))
+    (list_all-append (is_written keys) commands (s.command ∷ []) ∙ and_from _ _ parts.1 (and_from _ _ written refl))
+plan_sound keys n s _ at h = cc
 
-plan_step_sound : (n h : ℕ) (d e : Declared) (s : Result (List Command) ReadError) → IsSound n d → ((more : List Command) → s ≡ Ok more → is_plan (declared_keys d) more ≡ true)
-    → and_then s (λ more. Ok (record d { place = in_plan h more })) ≡ Ok e → IsSound (n + 1) e
-plan_step_sound n h d e (Ok more) sound each r = subst (IsSound (n + 1)) (ok_same _ _ r) (moved n d (in_plan h more) sound (each more refl))
-plan_step_sound n h d e (Err x) sound each r = cc
+-- the last line of a script or a plan; elsewhere it has a fault
+ended_sound : (n : ℕ) (d : Declared) (p : Context) → IsSound n d → IsPlace (declared_keys d) n p
+    → first_fault (n + 1) (by_place true true (λ o. not (length o.blocks == 0)) (λ h commands. false) p) false false false None ≡ None
+    → IsSound (n + 1) (by_place d d (λ o. with_task d o.host (scripted o.lines o.budget)) (λ h commands. with_task d h (planned commands)) p)
+ended_sound n d (in_script o) sound at h =
+    task_at n d o.host (scripted o.lines o.budget) (slice_get d.nexuses o.host) refl sound
+    (record { standing = at.standing; short = rw (← at.counted) at.short; rising = at.rising }, at.budget)
+ended_sound n d (in_plan g commands) sound at h = task_at n d g (planned commands) (slice_get d.nexuses g) refl sound at
+ended_sound n d _ sound at h = cc
 
-in_plan_sound : (n g : ℕ) (commands : List Command) (i : ScenarioLine) (d e : Declared) → is_plan (declared_keys d) commands ≡ true → IsSound n d → placed_in_plan (n + 1) g commands i d ≡ Ok e → IsSound (n + 1) e
-in_plan_sound n g commands (command_line s) d e plan h r =
-    plan_step_sound n g d e (planned_step (n + 1) (declared_keys d) s commands) h (λ more q. plan_more (declared_keys d) (n + 1) s commands more plan q) r
-in_plan_sound n g commands end_line d e plan h r =
-    subst (IsSound (n + 1)) (ok_same _ _ r) (task_at n d g (planned commands) (slice_get d.nexuses g) refl h plan)
-in_plan_sound n g commands _ d e plan h r = cc
-
-placed_by : (n : ℕ) (p : Context) (i : ScenarioLine) (d e : Declared) → d.place ≡ p → IsSound n d → is_item i ≡ true → placed_at (n + 1) p i d ≡ Ok e → IsSound (n + 1) e
-placed_by n before_all i d e at h s r = first_sound n i d e h r
-placed_by n outside i d e at h s r = outside_sound n i d e at h s r
-placed_by n (in_script o) i d e at h s r = in_script_sound n o i d e (subst (IsPlace (declared_keys d) n) at h.place) h s r
-placed_by n (in_plan g commands) i d e at h s r = in_plan_sound n g commands i d e (subst (IsPlace (declared_keys d) n) at h.place) h r
+line_sound : (n : ℕ) (i : ScenarioLine) (d : Declared) → IsSound n d → is_item i ≡ true → standing_fault (n + 1) d i ≡ None → IsSound (n + 1) (with_line (n + 1) d i)
+line_sound n (fence_line version) d sound s h = moved n (record d { version = version }) outside (versioned n version d sound) tt
+line_sound n (declares l) d sound s h = let b = stands_outside d.place (declaring_fault (n + 1) d l) (fault.Syntax (n + 1)) h in declared_sound n l d b.0 sound s b.1
+line_sound n (states l) d sound s h = moved n d _ sound (stated_sound (declared_keys d) n l d.place s sound.place h)
+line_sound n (command_line c) d sound s h = moved n d _ sound (plan_sound (declared_keys d) n c d.place sound.place h)
+line_sound n end_line d sound s h = ended_sound n d d.place sound sound.place h
 
 pub placed_sound : (n : ℕ) (i : ScenarioLine) (d e : Declared) → IsSound n d → is_item i ≡ true → item_placed (n + 1) i d ≡ Ok e → IsSound (n + 1) e
-unfolding item_taken item_standing
-placed_sound n i d e h sound r = placed_by n d.place i d e refl h sound (past _ _ _ e (sym (in_order (n + 1) i d) ∙ r)).1
+unfolding item_placed
+placed_sound n i d e sound s r =
+    let a = passes (fault_at (n + 1) d i) (with_line (n + 1) d i) e r in
+    subst (IsSound (n + 1)) a.1 (line_sound n i d sound s (skips (nat_lt d.version (since i)) _ _ a.0).1)

@@ -1,10 +1,10 @@
 -- The lines of an open script may stand where they do, with one line more.
-use Rattle.pr_text.proofs.Common.{◌≡◌, ℕ, ◌+◌, ◌≤◌, Bool, true, false, cond, not, ◌&&◌, List, [], ◌∷◌, ◌++◌, drop, nat_lt, nat_le, ◌==◌, Some, None, Ok, Err, count_by, Option, Result, sym, refl, ap, ◌∙◌, subst, append-nil, arith, list_all, and_parts, nat_tests, list_all-append, Command, is_written, test_fits, is_name, MOST_STATEMENTS, MOST_ARMS, MOST_OPEN, MOST_TURNS, Test, states, StatementLine, send_line, on_line, done_line, repeat_line, break_line, stop_line, ParsedCommand, is_item, and_from, leb-true, OpenLines, OpenBlock, sending, unless, with_statement_line, ScriptLine, arm_on, block_done, send_at, repeat_of, break_out, stop_with, is_repeating, is_sending, awaits_arm, ReadError, Which, script_step, is_statement, Reached, may, may_all, le-leb, not-false, or_parts}
+use Rattle.pr_text.proofs.Common.{◌≡◌, ℕ, ◌+◌, ◌≤◌, Bool, true, false, cond, not, ◌&&◌, List, [], ◌∷◌, ◌++◌, nat_lt, nat_le, ◌==◌, Some, None, Ok, count_by, Option, Result, sym, refl, ap, ◌∙◌, append-nil, arith, list_all, and_parts, nat_tests, list_all-append, Command, is_written, is_name, MOST_STATEMENTS, MOST_ARMS, MOST_OPEN, MOST_TURNS, Test, states, StatementLine, send_line, on_line, done_line, repeat_line, break_line, stop_line, ParsedCommand, is_item, and_from, leb-true, OpenLines, OpenBlock, sending, unless, with_statement_line, ScriptLine, arm_on, block_done, send_at, repeat_of, break_out, stop_with, is_repeating, is_sending, awaits_arm, ReadError, Which, is_statement, Reached, may, may_all, le-leb, not-false, or_parts, outside, Context}
 use Rattle.std.proofs.lemmas.Bool.{lt-ltb, not_from_false}
 use Rattle.std.proofs.lemmas.List.Sums.{fold-append, sum_by-append}
 use Rattle.pr_script.specs.Grammar.{stands_under, is_test_declared, has_sense_digit, rise_above}
-use Rattle.pr_text.specs.Standing.{by_innermost, awaits_more, may_close}
-use Rattle.pr_text.specs.inside.Chains.{arm_fault}
+use Rattle.pr_text.specs.Declarations.{repeating}
+use Rattle.pr_text.specs.Standing.{by_innermost, awaits_more, is_outside, may_close}
 use Rattle.pr_text.specs.LineFaults.{out_of_place, past_limit_in, first_fault, statement_fault}
 use Rattle.pr_text.specs.declared.fault.Which.TheVariants as which
 use Rattle.pr_text.specs.Declaring.{is_spelled}
@@ -87,15 +87,10 @@ send_more keys n o p c h lines budget stands steps counts few =
       budget = rw budget h.budget;
     }
 
--- ---- the steps
+-- ---- the lines
 
--- a test that must fail, and the rest
 pub ok_same : {A : Type 0} (x y : A) → ◌≡◌ {A = Result A ReadError} (Ok x) (Ok y) → x ≡ y
 ok_same x y h = cc
-
-pub past : {A : Type 0} (b : Bool) (e : ReadError) (r : Result A ReadError) (a : A) → cond b (Err e) r ≡ Ok a → (b ≡ false) × (r ≡ Ok a)
-past true e r a h = cc
-past false e r a h = (refl, h)
 
 not_full : (n : ℕ) → nat_le MOST_STATEMENTS n ≡ false → n + 1 ≤ MOST_STATEMENTS
 not_full n h = grind (arith, nat_tests)
@@ -111,33 +106,43 @@ pub skips : {A : Type 0} (b : Bool) (e : A) (o : Option A) → cond b (Some e) o
 skips true e o h = cc
 skips false e o h = (refl, h)
 
--- what the line of a script or plan is not, where it has no fault
-pub faultless : (n : ℕ) (misplaced undeclared : Bool) (past : Option Which) → first_fault n misplaced false undeclared false past ≡ None
-    → (misplaced ≡ false) × ((undeclared ≡ false) × (past ≡ None))
-faultless n false false None h = (refl, (refl, refl))
-faultless n _ _ _ h = cc
+-- what a line is not, where it has no fault
+pub record Faultless (misplaced unknown undeclared again : Bool) (past : Option Which) : Type 0 where
+  pub placed : misplaced ≡ false
+  pub known : unknown ≡ false
+  pub declared : undeclared ≡ false
+  pub once : again ≡ false
+  pub within : past ≡ None
 
-send_sound : (keys : List ℕ) (n : ℕ) (s : ParsedCommand) (o p : OpenLines) → AreBegun keys n o → script_step (n + 1) keys (send_line s) o ≡ Ok p → AreBegun keys (n + 1) p
-unfolding script_step
-send_sound keys n s o p h r =
-    let a = passes (statement_fault (n + 1) keys o (send_line s)) (with_statement_line (n + 1) (send_line s) o) p r in
-    let b = faultless (n + 1) (awaits_arm o.blocks) (not (is_spelled keys s)) (past_limit_in o (send_line s)) a.0 in
-    let c = skips (nat_le MOST_STATEMENTS o.statements) _ _ b.1.1 in
+pub faultless : (n : ℕ) (misplaced unknown undeclared again : Bool) (past : Option Which) → first_fault n misplaced unknown undeclared again past ≡ None
+    → Faultless misplaced unknown undeclared again past
+faultless n false false false false None h = record { placed = refl; known = refl; declared = refl; once = refl; within = refl }
+faultless n _ _ _ _ _ h = cc
+
+-- where a line may stand outside alone, and has no fault
+pub stands_outside : (p : Context) (o : Option ReadError) (e : ReadError) → cond (is_outside p) o (Some e) ≡ None → (p ≡ outside) × (o ≡ None)
+stands_outside outside o e h = (refl, h)
+stands_outside _ o e h = cc
+
+send_sound : (keys : List ℕ) (n : ℕ) (s : ParsedCommand) (o : OpenLines) → AreBegun keys n o → statement_fault (n + 1) keys o (send_line s) ≡ None
+    → AreBegun keys (n + 1) (with_statement_line (n + 1) (send_line s) o)
+send_sound keys n s o h clean =
+    let b = faultless (n + 1) (awaits_arm o.blocks) false (not (is_spelled keys s)) false (past_limit_in o (send_line s)) clean in
+    let c = skips (nat_le MOST_STATEMENTS o.statements) _ _ b.within in
     let d = skips (nat_le MOST_OPEN (count_by is_sending o.blocks)) _ _ c.1 in
-    let written = (and_parts (is_written keys s.command) _ (not-false _ b.1.0)).0 in
-    subst (AreBegun keys (n + 1)) a.1 (send_more keys n o (with_statement_line (n + 1) (send_line s) o) s.command h refl refl
-    (and_from _ _ (not_from_false (awaits_arm o.blocks) b.0) (and_from _ _ written (few_open (count_by is_sending o.blocks) d.0))) refl refl (not_full o.statements c.0))
+    let written = (and_parts (is_written keys s.command) _ (not-false _ b.declared)).0 in
+    send_more keys n o (with_statement_line (n + 1) (send_line s) o) s.command h refl refl
+    (and_from _ _ (not_from_false (awaits_arm o.blocks) b.placed) (and_from _ _ written (few_open (count_by is_sending o.blocks) d.0))) refl refl (not_full o.statements c.0)
 
-repeat_sound : (keys : List ℕ) (n count : ℕ) (o p : OpenLines) → AreBegun keys n o → script_step (n + 1) keys (repeat_line count) o ≡ Ok p → AreBegun keys (n + 1) p
-unfolding script_step
-repeat_sound keys n count o p h r =
-    let a = passes (statement_fault (n + 1) keys o (repeat_line count)) (with_statement_line (n + 1) (repeat_line count) o) p r in
-    let b = faultless (n + 1) (awaits_arm o.blocks) false (past_limit_in o (repeat_line count)) a.0 in
-    let c = skips (nat_le MOST_STATEMENTS o.statements) _ _ b.1.1 in
+repeat_sound : (keys : List ℕ) (n count : ℕ) (o : OpenLines) → AreBegun keys n o → statement_fault (n + 1) keys o (repeat_line count) ≡ None
+    → AreBegun keys (n + 1) (with_statement_line (n + 1) (repeat_line count) o)
+repeat_sound keys n count o h clean =
+    let b = faultless (n + 1) (awaits_arm o.blocks) false false false (past_limit_in o (repeat_line count)) clean in
+    let c = skips (nat_le MOST_STATEMENTS o.statements) _ _ b.within in
     let d = skips (nat_le MOST_OPEN (count_by is_repeating o.blocks)) _ _ c.1 in
     let e = skips (not (nat_le 1 count && nat_le count MOST_TURNS)) _ _ d.1 in
-    subst (AreBegun keys (n + 1)) a.1 (plain_more keys n o (with_statement_line (n + 1) (repeat_line count) o) (repeat_of count) h refl refl refl
-    (and_from _ _ (not_from_false (awaits_arm o.blocks) b.0) (and_from _ _ (not-false _ e.0) (few_open (count_by is_repeating o.blocks) d.0))) refl refl (not_full o.statements c.0))
+    plain_more keys n o (with_statement_line (n + 1) (repeat_line count) o) (repeat_of count) h refl refl refl
+    (and_from _ _ (not_from_false (awaits_arm o.blocks) b.placed) (and_from _ _ (not-false _ e.0) (few_open (count_by is_repeating o.blocks) d.0))) refl refl (not_full o.statements c.0)
 
 state_true : (o : OpenLines) → awaits_more o ≡ false → may_state (state_of o) ≡ true
 state_true o h = let parts = or_parts (awaits_arm o.blocks) _ h in and_from _ _ (not_from_false _ parts.0) (not_from_false _ parts.1)
@@ -145,76 +150,54 @@ state_true o h = let parts = or_parts (awaits_arm o.blocks) _ h in and_from _ _ 
 some_open : (n : ℕ) → (n == 0) ≡ false → nat_lt 0 n ≡ true
 some_open n h = grind (arith, nat_tests)
 
-break_sound : (keys : List ℕ) (n : ℕ) (o p : OpenLines) → AreBegun keys n o → script_step (n + 1) keys break_line o ≡ Ok p → AreBegun keys (n + 1) p
-unfolding script_step
-break_sound keys n o p h r =
-    let a = passes (statement_fault (n + 1) keys o break_line) (with_statement_line (n + 1) break_line o) p r in
-    let b = faultless (n + 1) (out_of_place o break_line) false (past_limit_in o break_line) a.0 in
-    let c = skips (nat_le MOST_STATEMENTS o.statements) _ _ b.1.1 in
-    let parts = or_parts (awaits_more o) _ b.0 in
-    subst (AreBegun keys (n + 1)) a.1 (plain_more keys n o (with_statement_line (n + 1) break_line o) break_out h refl refl refl
-    (and_from _ _ (state_true o parts.0) (some_open (count_by is_repeating o.blocks) parts.1)) refl refl (not_full o.statements c.0))
+break_sound : (keys : List ℕ) (n : ℕ) (o : OpenLines) → AreBegun keys n o → statement_fault (n + 1) keys o break_line ≡ None
+    → AreBegun keys (n + 1) (with_statement_line (n + 1) break_line o)
+break_sound keys n o h clean =
+    let b = faultless (n + 1) (out_of_place o break_line) false false false (past_limit_in o break_line) clean in
+    let c = skips (nat_le MOST_STATEMENTS o.statements) _ _ b.within in
+    let parts = or_parts (awaits_more o) _ b.placed in
+    plain_more keys n o (with_statement_line (n + 1) break_line o) break_out h refl refl refl
+    (and_from _ _ (state_true o parts.0) (some_open (count_by is_repeating o.blocks) parts.1)) refl refl (not_full o.statements c.0)
 
-stop_sound : (keys : List ℕ) (n : ℕ) (word : List ℕ) (o p : OpenLines) → is_name word ≡ true → AreBegun keys n o → script_step (n + 1) keys (stop_line word) o ≡ Ok p → AreBegun keys (n + 1) p
-unfolding script_step
-stop_sound keys n word o p named h r =
-    let a = passes (statement_fault (n + 1) keys o (stop_line word)) (with_statement_line (n + 1) (stop_line word) o) p r in
-    let b = faultless (n + 1) (awaits_more o) false (past_limit_in o (stop_line word)) a.0 in
-    let c = skips (nat_le MOST_STATEMENTS o.statements) _ _ b.1.1 in
-    subst (AreBegun keys (n + 1)) a.1 (plain_more keys n o (with_statement_line (n + 1) (stop_line word) o) (stop_with word) h refl refl refl
-    (and_from _ _ (state_true o b.0) named) refl refl (not_full o.statements c.0))
+stop_sound : (keys : List ℕ) (n : ℕ) (word : List ℕ) (o : OpenLines) → is_name word ≡ true → AreBegun keys n o → statement_fault (n + 1) keys o (stop_line word) ≡ None
+    → AreBegun keys (n + 1) (with_statement_line (n + 1) (stop_line word) o)
+stop_sound keys n word o named h clean =
+    let b = faultless (n + 1) (awaits_more o) false false false (past_limit_in o (stop_line word)) clean in
+    let c = skips (nat_le MOST_STATEMENTS o.statements) _ _ b.within in
+    plain_more keys n o (with_statement_line (n + 1) (stop_line word) o) (stop_with word) h refl refl refl
+    (and_from _ _ (state_true o b.placed) named) refl refl (not_full o.statements c.0)
 
-pub kept : {A : Type 0} (b : Bool) (x : A) (e : ReadError) (a : A) → cond b (Ok x) (Err e) ≡ Ok a → (b ≡ true) × (x ≡ a)
-kept true x e a h = (refl, cc)
-kept false x e a h = cc
-
-done_sound : (keys : List ℕ) (n : ℕ) (o p : OpenLines) → AreBegun keys n o → script_step (n + 1) keys done_line o ≡ Ok p → AreBegun keys (n + 1) p
-unfolding script_step
-done_sound keys n o p h r =
-    let a = passes (statement_fault (n + 1) keys o done_line) (with_statement_line (n + 1) done_line o) p r in
-    let b = faultless (n + 1) (not (may_close o.blocks o.begun)) false None a.0 in
-    subst (AreBegun keys (n + 1)) a.1
-    (plain_more keys n o (with_statement_line (n + 1) done_line o) block_done h refl refl refl (not-false _ b.0) refl (omega arith) (leb-true o.statements MOST_STATEMENTS h.short))
-
-test_true : (keys : List ℕ) (c : Command) (t : Test) → has_sense_digit t ≡ true → stands_under c t ≡ true → is_test_declared keys t ≡ true → test_fits keys c t ≡ true
-test_true keys c t digit under known = and_from _ _ digit (and_from _ _ under known)
+done_sound : (keys : List ℕ) (n : ℕ) (o : OpenLines) → AreBegun keys n o → statement_fault (n + 1) keys o done_line ≡ None
+    → AreBegun keys (n + 1) (with_statement_line (n + 1) done_line o)
+done_sound keys n o h clean =
+    let b = faultless (n + 1) (not (may_close o.blocks o.begun)) false false false None clean in
+    plain_more keys n o (with_statement_line (n + 1) done_line o) block_done h refl refl refl (not-false _ b.placed) refl (omega arith) (leb-true o.statements MOST_STATEMENTS h.short)
 
 few_arms : (n : ℕ) → nat_le MOST_ARMS n ≡ false → nat_lt n MOST_ARMS ≡ true
 few_arms n h = grind (arith, nat_tests)
 
-arm_true : (n : ℕ) (keys : List ℕ) (t : Test) (c : Command) (k : ℕ) → has_sense_digit t ≡ true → arm_fault n keys t c k ≡ None → (test_fits keys c t && nat_lt k MOST_ARMS) ≡ true
-arm_true n keys t c k sound r =
-    let a = faultless n (not (stands_under c t)) (not (is_test_declared keys t)) (cond (nat_le MOST_ARMS k) (Some which.Arms) None) r in
-    let b = skips (nat_le MOST_ARMS k) _ _ a.1.1 in
-    and_from _ _ (test_true keys c t sound (not-false _ a.0) (not-false _ a.1.0)) (few_arms k b.0)
-
--- the script with the next arm, where these blocks are open
-abbrev armed : OpenLines → Test → List OpenBlock → OpenLines
-armed o t bs = record o { lines = o.lines ++ arm_on t ∷ []; blocks = by_innermost bs bs (λ c arms. sending c (arms + 1) ∷ drop 1 bs) bs; begun = false }
-
+-- what is wrong with an arm, where these blocks are open
 abbrev arm_fault_under : ℕ → List ℕ → Test → List OpenBlock → Option ReadError
 arm_fault_under n keys t bs =
     first_fault n (by_innermost true true (λ c arms. not (stands_under c t)) bs) false (not (is_test_declared keys t)) false
     (cond (by_innermost false false (λ c arms. nat_le MOST_ARMS arms) bs) (Some which.Arms) None)
 
-on_blocks : (keys : List ℕ) (n : ℕ) (t : Test) (o p : OpenLines) (bs : List OpenBlock) → o.blocks ≡ bs → has_sense_digit t ≡ true → AreBegun keys n o
-    → unless (arm_fault_under (n + 1) keys t bs) (armed o t bs) ≡ Ok p → AreBegun keys (n + 1) p
-on_blocks keys n t o p ((sending c k) ∷ bs) e sound h r =
-    let after : OpenLines = armed o t (sending c k ∷ bs) in
-    let a = passes (arm_fault (n + 1) keys t c k) after p r in
-    let stands : may keys (state_of o) (arm_on t) ≡ true = rw e (arm_true (n + 1) keys t c k sound a.0) in
-    let steps : state_of after ≡ next (state_of o) (arm_on t) = rw e refl in
-    subst (AreBegun keys (n + 1)) a.1 (plain_more keys n o after (arm_on t) h refl refl refl stands steps (omega arith) (leb-true o.statements MOST_STATEMENTS h.short))
-on_blocks keys n t o p _ e sound h r = cc
+-- the next arm
+arm_sound : (keys : List ℕ) (n : ℕ) (t : Test) (o : OpenLines) (bs : List OpenBlock) → o.blocks ≡ bs → has_sense_digit t ≡ true → AreBegun keys n o → statement_fault (n + 1) keys o (on_line t) ≡ None
+    → AreBegun keys (n + 1) (with_statement_line (n + 1) (on_line t) o)
+arm_sound keys n t o ((sending c k) ∷ bs) e digit h clean =
+    let b = faultless (n + 1) (not (stands_under c t)) false (not (is_test_declared keys t)) false (cond (nat_le MOST_ARMS k) (Some which.Arms) None) (sym (ap (λ xs. arm_fault_under (n + 1) keys t xs) e) ∙ clean) in
+    let few = few_arms k (skips (nat_le MOST_ARMS k) _ _ b.within).0 in
+    let fits = and_from _ _ digit (and_from _ _ (not-false _ b.placed) (not-false _ b.declared)) in
+    plain_more keys n o (with_statement_line (n + 1) (on_line t) o) (arm_on t) h refl refl refl (rw e (and_from _ _ fits few)) (rw e refl) (omega arith) (leb-true o.statements MOST_STATEMENTS h.short)
+arm_sound keys n t o [] e digit h clean = let none : arm_fault_under (n + 1) keys t [] ≡ None = sym (ap (λ xs. arm_fault_under (n + 1) keys t xs) e) ∙ clean in cc
+arm_sound keys n t o (repeating ∷ bs) e digit h clean = let none : arm_fault_under (n + 1) keys t (repeating ∷ bs) ≡ None = sym (ap (λ xs. arm_fault_under (n + 1) keys t xs) e) ∙ clean in cc
 
-on_sound : (keys : List ℕ) (n : ℕ) (t : Test) (o p : OpenLines) → has_sense_digit t ≡ true → AreBegun keys n o → script_step (n + 1) keys (on_line t) o ≡ Ok p → AreBegun keys (n + 1) p
-unfolding script_step
-on_sound keys n t o p sound h r = on_blocks keys n t o p o.blocks refl sound h r
-
-pub script_sound : (keys : List ℕ) (n : ℕ) (i : StatementLine) (o p : OpenLines) → is_item (states i) ≡ true → AreBegun keys n o → script_step (n + 1) keys i o ≡ Ok p → AreBegun keys (n + 1) p
-script_sound keys n (send_line s) o p i h r = send_sound keys n s o p h r
-script_sound keys n (on_line t) o p i h r = on_sound keys n t o p i h r
-script_sound keys n done_line o p i h r = done_sound keys n o p h r
-script_sound keys n (repeat_line count) o p i h r = repeat_sound keys n count o p h r
-script_sound keys n break_line o p i h r = break_sound keys n o p h r
-script_sound keys n (stop_line word) o p i h r = stop_sound keys n word o p i h r
+pub script_sound : (keys : List ℕ) (n : ℕ) (l : StatementLine) (o : OpenLines) → is_item (states l) ≡ true → AreBegun keys n o → statement_fault (n + 1) keys o l ≡ None
+    → AreBegun keys (n + 1) (with_statement_line (n + 1) l o)
+script_sound keys n (send_line s) o i h clean = send_sound keys n s o h clean
+script_sound keys n (on_line t) o i h clean = arm_sound keys n t o o.blocks refl i h clean
+script_sound keys n done_line o i h clean = done_sound keys n o h clean
+script_sound keys n (repeat_line count) o i h clean = repeat_sound keys n count o h clean
+script_sound keys n break_line o i h clean = break_sound keys n o h clean
+script_sound keys n (stop_line word) o i h clean = stop_sound keys n word o i h clean

@@ -1,15 +1,16 @@
 -- What is declared with one line more is what the version has.
-use Rattle.pr_text.proofs.Common.{◌≡◌, ℕ, zero, suc, ◌+◌, Bool, true, false, not, ◌&&◌, List, [], ◌∷◌, ◌++◌, length, nat_lt, nat_le, slice_set, Some, None, Ok, Option, sym, refl, ap, ◌∙◌, subst, arith, list_all, slice_get, option_map_or, unwrap_or, and_parts, nat_tests, list_all-append, is_count, are_resets, most_declared, MOST_REFUSALS, MOST_RESETS, states, ScenarioLine, DeclaringLine, StatementLine, fence_line, declares, nexus_line, start_line, pending_line, refusals_line, resets_line, role_line, script_line, plan_line, end_line, send_line, on_line, done_line, repeat_line, break_line, stop_line, command_line, since, RefusalKind, ParsedCommand, is_item, and_from, Declared, WrittenTask, scripted, planned, Declaration, OpenLines, Context, before_all, outside, in_script, in_plan, codes_of, number_of, with_count, with_task, begun_script, with_statement_line, item_placed, ScriptLine, arm_on, block_done, send_at, repeat_of, break_out, stop_with, Which, is_line_of, IsDated, le-leb, not-false}
+use Rattle.pr_text.proofs.Common.{◌≡◌, ℕ, zero, suc, ◌+◌, Bool, true, false, not, ◌&&◌, List, [], ◌∷◌, ◌++◌, length, nat_lt, nat_le, slice_set, Some, None, Ok, Option, sym, refl, ap, ◌∙◌, subst, arith, list_all, slice_get, option_map_or, unwrap_or, and_parts, nat_tests, list_all-append, is_count, are_resets, most_declared, MOST_REFUSALS, MOST_RESETS, states, ScenarioLine, DeclaringLine, StatementLine, fence_line, declares, nexus_line, start_line, pending_line, refusals_line, resets_line, role_line, script_line, plan_line, end_line, send_line, on_line, done_line, repeat_line, break_line, stop_line, command_line, since, RefusalKind, ParsedCommand, is_item, and_from, Declared, WrittenTask, scripted, planned, Declaration, OpenLines, Context, before_all, outside, in_script, in_plan, codes_of, number_of, with_count, with_task, begun_script, with_statement_line, item_placed, ScriptLine, arm_on, block_done, send_at, repeat_of, break_out, stop_with, is_line_of, IsDated, le-leb, not-false}
 use Rattle.std.proofs.lemmas.List.{length-set}
 use Rattle.pr_lines.specs.declared.item.RefusalKind.TheVariants as refusal
 use Rattle.pr_lines.specs.Versions.{declaring_since, statement_since}
 use Rattle.pr_script.specs.Versions.{since as test_since}
-use Rattle.pr_text.specs.Standing.{by_place, is_before_all, is_outside, of_script, of_plan}
-use Rattle.pr_text.specs.LineFaults.{past_limit, names_unknown, keys_undeclared, says_again, first_fault, standing_fault, fault_at}
+use Rattle.pr_text.specs.Standing.{by_place, is_before_all, of_script, of_plan}
+use Rattle.pr_text.specs.declared.fault.ReadError.TheVariants as fault
+use Rattle.pr_text.specs.LineFaults.{past_limit, names_unknown, keys_undeclared, says_again, declaring_fault, standing_fault, fault_at}
 use Rattle.pr_text.specs.NextLine.{with_nexus, with_declared, with_line}
 use Rattle.pr_text.specs.inside.Sound.{is_written_of, is_declared_of, IsPlaceOf}
 use Rattle.pr_text.proofs.lemmas.Sound.Lists.{one_long}
-use Rattle.pr_text.proofs.lemmas.Sound.Scripts.{passes, skips}
+use Rattle.pr_text.proofs.lemmas.Sound.Scripts.{faultless, passes, skips, stands_outside}
 use Rattle.pr_text.proofs.lemmas.ScriptRoundTrip.Versions.{by_has, count_kept, resets_kept}
 
 -- ---- one nexus
@@ -143,10 +144,6 @@ ended_dated d _ at dated = dated
 
 -- ---- any line
 
-outside_is : (p : Context) → is_outside p ≡ true → p ≡ outside
-outside_is outside h = refl
-outside_is _ h = cc
-
 none_before : (v : ℕ) (r : Option ℕ) (xs : List Declaration) (p : Context) → is_before_all p ≡ true → IsPlaceOf v r xs p → (r ≡ None) × (xs ≡ [])
 none_before v r xs before_all h at = at
 none_before v r xs _ h at = cc
@@ -154,15 +151,10 @@ none_before v r xs _ h at = cc
 few_none : (version : ℕ) (xs : List Declaration) → xs ≡ [] → nat_le (length xs) (most_declared version) ≡ true
 few_none version xs none = ap (λ ys. nat_le (length ys) (most_declared version)) none ∙ le-leb 0 (most_declared version) (omega arith)
 
--- a line without fault stands well, and keeps its limit
-stands_well : (n : ℕ) (misplaced unknown undeclared again : Bool) (limit : Option Which) → first_fault n misplaced unknown undeclared again limit ≡ None → (misplaced ≡ false) × (limit ≡ None)
-stands_well n false false false false None h = (refl, refl)
-stands_well n _ _ _ _ _ h = cc
-
 line_dated : (n : ℕ) (i : ScenarioLine) (d : Declared) → is_item i ≡ true → nat_lt d.version (since i) ≡ false → standing_fault n d i ≡ None → IsDated d → IsDated (with_line n d i)
-line_dated n (fence_line version) d known has faultless dated =
-    let well = stands_well n (not (is_before_all d.place)) false false false None faultless in
-    let none = none_before d.version d.resets d.nexuses d.place (not-false _ well.0) dated.place in
+line_dated n (fence_line version) d known has clean dated =
+    let well = faultless n (not (is_before_all d.place)) false false false None clean in
+    let none = none_before d.version d.resets d.nexuses d.place (not-false _ well.placed) dated.place in
     record {
       version = known;
       resets = ap (λ r. are_resets version (unwrap_or r 0)) none.0;
@@ -170,14 +162,15 @@ line_dated n (fence_line version) d known has faultless dated =
       each = ap (list_all (is_declared_of version)) none.1;
       place = tt;
     }
-line_dated n (declares l) d known has faultless dated =
-    let well = stands_well n (not (is_outside d.place)) (names_unknown d l) (keys_undeclared d l) (says_again d l) (past_limit d l) faultless in
-    declared_dated n l d (outside_is d.place (not-false _ well.0)) has well.1 dated
-line_dated n (states l) d known has faultless dated =
+line_dated n (declares l) d known has clean dated =
+    let stands = stands_outside d.place (declaring_fault n d l) (fault.Syntax n) clean in
+    let well = faultless n false (names_unknown d l) (keys_undeclared d l) (says_again d l) (past_limit d l) stands.1 in
+    declared_dated n l d stands.0 has well.within dated
+line_dated n (states l) d known has clean dated =
     record { version = dated.version; resets = dated.resets; few = dated.few; each = dated.each; place = in_script_dated d.version d.resets d.nexuses n l d.place has dated.place }
-line_dated n (command_line s) d known has faultless dated =
+line_dated n (command_line s) d known has clean dated =
     record { version = dated.version; resets = dated.resets; few = dated.few; each = dated.each; place = in_plan_dated d.version d.resets d.nexuses s d.place dated.place }
-line_dated n end_line d known has faultless dated = ended_dated d d.place dated.place dated
+line_dated n end_line d known has clean dated = ended_dated d d.place dated.place dated
 
 pub placed_dated : (n : ℕ) (i : ScenarioLine) (d e : Declared) → IsDated d → is_item i ≡ true → item_placed n i d ≡ Ok e → IsDated e
 unfolding item_placed
