@@ -1,5 +1,6 @@
 -- The names that most proofs of this crate cite, passed on from one place. Declares nothing.
 pub use Rattle.std.proofs.Common.{◌≡◌, ℕ, zero, suc, ◌+◌, ◌<◌, ◌≤◌, Bool, true, false, not, ◌&&◌, ◌||◌, ◌≢◌, ◌⊎◌, List, [], ◌∷◌, length, if◌then◌else◌, ◌==◌, slice_index_or, bit_or, Some, None, All, Option, sym, refl, ap, ◌∙◌, subst, inl, inr, arith, lt-ltb}
+pub use Rattle.std.specs.List.{Any}
 pub use Rattle.std.proofs.lemmas.Bool.{false≢true, and_parts, and_from, eq-eqb, eqb-true, or_left}
 pub use Rattle.std.proofs.lemmas.Bool.Decides.{eqb_tells, nat_tests}
 pub use Rattle.std.proofs.lemmas.List.{get_or_default}
@@ -26,7 +27,6 @@ unfoldable pub use Rattle.pr_roles.specs.Scenarios.{scenario_of}
 pub use Rattle.pr_roles.specs.declared.parts.Parts.{Parts}
 pub use Rattle.pr_roles.specs.declared.role.Action.{Action}
 pub use Rattle.pr_roles.specs.declared.role.Clause.{Clause}
-pub use Rattle.pr_roles.specs.inside.FirstElements.{Among}
 pub use Rattle.pr_views.specs.Portions.{has_at, view_in}
 pub use Rattle.pr_views.specs.Possibilities.{Scope, number_of, count_of_reservations, Item, Registration, Reservation, Attentions, IsSo}
 pub use Rattle.pr_views.specs.Rooms.{scope_of, view_of, AreInRange}
@@ -49,9 +49,9 @@ pub use Rattle.pr_regions.proofs.lemmas.Showing.AlikeViews.{IsSame, shows_within
 pub use Rattle.pr_interference.specs.Interference.{IsDone, IsLeft, IsInterference}
 pub use Rattle.pr_interference.specs.declared.onlooker.Onlooker.{Onlooker}
 pub use Rattle.pr_interference.specs.declared.reach.Reach.{Reach}
-pub use Rattle.pr_interference.specs.inside.Clauses.{purpose_of_preempt, purpose_for, IsClause, StandingLeads, PlaceLeads, FirstLeads}
+pub use Rattle.pr_interference.specs.inside.Clauses.{purpose_of_preempt, purpose_for, IsClause, StandingLeads, PlaceLeads}
 pub use Rattle.pr_interference.specs.inside.Closing.{IsRound, IsWidened, scope_for, view_for}
-pub use Rattle.pr_interference.specs.inside.Interfering.{IsWatched, IsOnlooking, IsLedBy, IsLeftBy, ClauseLeaves}
-pub use Rattle.pr_interference.specs.inside.Marks.{first, AreMarked}
+pub use Rattle.pr_interference.specs.inside.Interfering.{IsWatched, IsOnlooking, IsLedBy, IsLeftBy, ClauseLeads, ClauseLeaves}
+pub use Rattle.pr_interference.specs.inside.Marks.{first}
 pub use Rattle.pr_roles.specs.declared.limits.TheConstants.{MOST_KEYS, MOST_CLAUSES}
 pub use Rattle.pr_views.specs.declared.view.TheConstants.{ATTENTION_SETS, MOST_REGISTRATIONS}

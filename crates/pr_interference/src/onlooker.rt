@@ -40,7 +40,7 @@ impl Onlooker<'_> {
     ghost use Rattle.pr_regions.specs.Regions.{HasRoom};
     ghost use Rattle.pr_regions.specs.declared.region.Ending.TheVariants as ending;
     ghost use Rattle.pr_regions.specs.Gathering.{IsUniform, IsProper, IsAt};
-    ghost use Rattle.pr_interference.specs.inside.Interfering.{IsWatched, IsAfter, BranchHasRoom, AddsBranch, AddsBranches};
+    ghost use Rattle.pr_interference.specs.inside.Interfering.{IsWatched, IsAfter, AddsBranch, AddsBranches};
 
     /// What is possible once a command has this effect in the states of the region in which its sender has one of
     /// these registrations; none where the view shows no such state.
@@ -80,7 +80,7 @@ impl Onlooker<'_> {
         senders: BitSet,
         branches: &[Branch],
     )
-        requires room { All (BranchHasRoom place.now.hosts) branches.now }
+        requires room { All (λ b. HasRoom place.now.hosts b.ending) branches.now }
         ensures { AddsBranches self.now place.now senders branches.now answer.old answer.new }
     {
         for branch in branches {
@@ -95,7 +95,7 @@ impl Onlooker<'_> {
         senders: BitSet,
         branch: &Branch,
     )
-        requires room { BranchHasRoom place.now.hosts branch.now }
+        requires room { HasRoom place.now.hosts branch.now.ending }
         ensures { AddsBranch self.now place.now senders branch.now answer.old answer.new }
     {
         if let Ending::Good(change) = branch.ending {

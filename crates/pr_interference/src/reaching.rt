@@ -39,7 +39,7 @@ impl Onlooker<'_> {
     /// Whether a command that reaches no more than this may leave what the answer is without, beside what was so before it.
     pub(crate) fn may_gain(&self, answer: &Possibilities, reach: &Reach) -> bool
         ensures { result ≡ false → (s : Scope) (clause : ClauseOf) → IsOnlooking s self.now
-            → IsReach s self.now.view clause self.now.other reach.now
+            → ((x : ℕ) → IsReach s self.now.view clause self.now.other x reach.now)
             → IsMost s self.now.view clause self.now.other answer.now }
     {
         if lacks_wide(answer.reservations, reach.reservations) {

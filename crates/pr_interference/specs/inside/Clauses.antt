@@ -1,5 +1,6 @@
 -- What the clauses of a role ask for, reservation by reservation and standing by standing.
-use Rattle.std.specs.Prelude.{◌≡◌, ℕ, ◌<◌, ◌≤◌, Bool, true, false, not, ◌&&◌, ◌||◌, ◌==◌, if◌then◌else◌, List, length, Option, Some, None, option_map}
+use Rattle.std.specs.Prelude.{◌≡◌, ℕ, ◌≤◌, Bool, true, false, not, ◌&&◌, ◌||◌, ◌==◌, if◌then◌else◌, List, Option, Some, None, option_map}
+use Rattle.std.specs.List.{Any}
 use Rattle.pr_cdb.specs.declared.command.Command.{Command}
 use Rattle.pr_cdb.specs.declared.command.Kind.{Kind}
 use Rattle.pr_registry.specs.declared.held.Held.{Held}
@@ -13,8 +14,7 @@ use Rattle.pr_roles.specs.declared.role.Clause.{Clause}
 use Rattle.pr_roles.specs.Fitting.{is_action}
 use Rattle.pr_sets.specs.declared.bit_set.BitSet.{BitSet}
 use Rattle.pr_sets.specs.BitSets.{has}
-use Rattle.pr_roles.specs.inside.FirstElements.{Among}
-use Rattle.pr_views.specs.Possibilities.{Scope, Registration, Reservation, IsSo, count_of_reservations}
+use Rattle.pr_views.specs.Possibilities.{Scope, Registration, Reservation, IsSo}
 use Rattle.pr_views.specs.declared.possibilities.Possibilities.{Possibilities}
 use Rattle.pr_views.specs.Portions.{view_in}
 use Rattle.pr_views.specs.Views.{View, Shows}
@@ -24,7 +24,7 @@ use Rattle.pr_regions.specs.declared.purpose.Standing.{Standing}
 use Rattle.pr_regions.specs.declared.purpose.Standing.TheVariants.{Unregistered, Named, Other}
 use Rattle.pr_regions.specs.Conditions.{holds_as}
 use Rattle.pr_regions.specs.Regions.{standing_of}
-use Rattle.pr_interference.specs.inside.Interfering.{IsFree, IsOnlooking, IsWatched, ClauseLeaves}
+use Rattle.pr_interference.specs.inside.Interfering.{IsFree, IsOnlooking, IsWatched, ClauseLeads, ClauseLeaves}
 use Rattle.pr_interference.specs.declared.onlooker.Onlooker.{Onlooker}
 use Rattle.pr_regions.specs.declared.place.Place.{Place}
 use Rattle.pr_regions.specs.inside.Adding.{Adds}
@@ -97,22 +97,14 @@ pub record PlaceLeads (v : View) (clause : Clause) (sender : ℕ) (reservation :
   pub meant : purpose_for v.scope.keys clause.action u.registry.held ≡ Some purpose
   pub leads : PurposeLeads v clause sender reservation purpose u w
 
--- under one of the first reservations
-pub record FirstLeads (n : ℕ) (v : View) (clause : Clause) (sender : ℕ) (u w : UnitState) : Type 0 where
-  pub reservation : ℕ
-  pub below : reservation < n
-  pub leads : PlaceLeads v clause sender reservation u w
-
 -- The answer gains what a command of the clause leads to, in each view of the onlooker's.
 abbrev pub AddsClause : Onlooker → Clause → Possibilities → Possibilities → Type 0
-AddsClause o clause old new = (s : Scope) → IsOnlooking s o
-    → Adds s old new (FirstLeads (count_of_reservations o.hosts) (view_in s o.view) clause o.other) (ClauseLeaves (view_in s o.view) clause o.other)
+AddsClause o clause old new = (s : Scope) → IsOnlooking s o → Adds s old new (ClauseLeads (view_in s o.view) clause o.other) (ClauseLeaves (view_in s o.view) clause o.other)
 
 -- it gains what one of any clause of the role leads to
 abbrev pub AddsRole : Onlooker → Possibilities → Possibilities → Type 0
 AddsRole o old new = (s : Scope) → IsOnlooking s o
-    → Adds s old new (λ u w. Among (length o.clauses.now) o.clauses.now (λ clause. FirstLeads (count_of_reservations o.hosts) (view_in s o.view) clause o.other u w))
-    (λ i. Among (length o.clauses.now) o.clauses.now (λ clause. ClauseLeaves (view_in s o.view) clause o.other i))
+    → Adds s old new (λ u w. Any (λ clause. ClauseLeads (view_in s o.view) clause o.other u w) o.clauses.now) (λ i. Any (λ clause. ClauseLeaves (view_in s o.view) clause o.other i) o.clauses.now)
 
 -- it gains what one of this clause leads to under the reservation of a place
 abbrev pub AddsPlace : Onlooker → Place → Clause → Possibilities → Possibilities → Type 0

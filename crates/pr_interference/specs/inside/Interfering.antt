@@ -1,6 +1,6 @@
 -- What the steps of another add to possibilities.
-use Rattle.std.specs.Prelude.{◌≡◌, ◌≢◌, ℕ, true, false, None, List, length}
-use Rattle.std.specs.List.{All}
+use Rattle.std.specs.Prelude.{◌≡◌, ◌≢◌, ℕ, true, false, None, List}
+use Rattle.std.specs.List.{All, Any}
 use Rattle.pr_cdb.specs.declared.command.Command.{Command}
 use Rattle.pr_cdb.specs.declared.wire.Request.TheVariants.{Plain}
 use Rattle.pr_cdb.specs.Ranges.{Fits as IsCommand}
@@ -9,7 +9,6 @@ use Rattle.pr_unit.specs.Conduct.{command_conflicts, command_fault}
 use Rattle.pr_unit.specs.Laws.{request_looks}
 use Rattle.pr_roles.specs.declared.role.Clause.{Clause}
 use Rattle.pr_roles.specs.Permits.{clause_permits}
-use Rattle.pr_roles.specs.inside.FirstElements.{Among}
 use Rattle.pr_sets.specs.declared.bit_set.BitSet.{BitSet}
 use Rattle.pr_views.specs.declared.possibilities.Possibilities.{Possibilities}
 use Rattle.pr_views.specs.Possibilities.{Scope, Item, IsSo}
@@ -19,10 +18,10 @@ use Rattle.pr_regions.specs.declared.region.Region.{Region}
 use Rattle.pr_regions.specs.declared.region.Transition.{Transition}
 use Rattle.pr_regions.specs.declared.region.Ending.TheVariants as ending
 use Rattle.pr_regions.specs.declared.region.Branch.{Branch}
-use Rattle.pr_regions.specs.Regions.{Changes, HasRoom}
+use Rattle.pr_regions.specs.Regions.{Changes, IsProper}
 use Rattle.pr_regions.specs.declared.place.Place.{Place}
 use Rattle.pr_interference.specs.declared.onlooker.Onlooker.{Onlooker}
-use Rattle.pr_regions.specs.Gathering.{IsPlace, IsUniform, IsProper, IsAt}
+use Rattle.pr_regions.specs.Gathering.{IsPlace, IsUniform, IsAt}
 use Rattle.pr_regions.specs.inside.Adding.{Allows, Adds}
 
 -- it is a place of the onlooker's view, and its sender is another
@@ -65,21 +64,15 @@ pub record IsLeftBy (s : Scope) (view : Possibilities) (place : Place) (senders 
   pub good : branch.ending ≡ ending.Good change
   pub changed : IsChanged s view place senders branch.region change i
 
-abbrev pub IsProperBranch : Branch → Type 0
-IsProperBranch branch = IsProper branch.region
-
-abbrev pub BranchHasRoom : ℕ → Branch → Type 0
-BranchHasRoom hosts branch = HasRoom hosts branch.ending
-
 -- In each view of the onlooker's, the answer gains what the branch leads to, if its sender is one of these.
 abbrev pub AddsBranch : Onlooker → Place → BitSet → Branch → Possibilities → Possibilities → Type 0
-AddsBranch o place senders branch old new = (s : Scope) → IsWatched s o place → IsUniform senders → IsProperBranch branch
+AddsBranch o place senders branch old new = (s : Scope) → IsWatched s o place → IsUniform senders → IsProper branch
     → Adds s old new (IsLedBy s o.view place senders branch) (IsLeftBy s o.view place senders branch)
 
 -- it gains what any of the branches leads to
 abbrev pub AddsBranches : Onlooker → Place → BitSet → List Branch → Possibilities → Possibilities → Type 0
-AddsBranches o place senders branches old new = (s : Scope) → IsWatched s o place → IsUniform senders → All IsProperBranch branches
-    → Adds s old new (λ u w. Among (length branches) branches (λ b. IsLedBy s o.view place senders b u w)) (λ i. Among (length branches) branches (λ b. IsLeftBy s o.view place senders b i))
+AddsBranches o place senders branches old new = (s : Scope) → IsWatched s o place → IsUniform senders → All IsProper branches
+    → Adds s old new (λ u w. Any (λ b. IsLedBy s o.view place senders b u w) branches) (λ i. Any (λ b. IsLeftBy s o.view place senders b i) branches)
 
 -- ---- clauses
 
@@ -99,9 +92,5 @@ pub record ClauseLeads (v : View) (clause : Clause) (sender : ℕ) (u w : UnitSt
   pub after : w ≡ effect u sender command
 
 -- it leaves this behind
-pub record ClauseLeaves (v : View) (clause : Clause) (sender : ℕ) (i : Item) : Type 0 where
-  pub from : UnitState
-  pub shown : Shows v from
-  pub command : Command
-  pub free : IsFree clause sender from command
-  pub is : IsSo v.scope (effect from sender command) i
+abbrev pub ClauseLeaves : View → Clause → ℕ → Item → Type 0
+ClauseLeaves v clause sender i = (u w : UnitState) × ClauseLeads v clause sender u w × IsSo v.scope w i

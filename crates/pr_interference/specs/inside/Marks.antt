@@ -10,11 +10,6 @@ use Rattle.pr_regions.specs.Regions.{mark}
 abbrev pub first : ℕ → BitSet → ℕ → Bool
 first bound w n = nat_lt n bound && has w n
 
--- of the sets of attentions, what they are with each of the first marks
-pub record AreMarked (bound : ℕ) (marks pending told : BitSet) : Type 0 where
-  pub all : (m q : ℕ) → first bound marks m ≡ true → first ATTENTION_SETS pending q ≡ true → has told (bit_or q m) ≡ true
-  pub only : (n : ℕ) → has told n ≡ true → (m : ℕ) × (q : ℕ) × (first bound marks m ≡ true) × (first ATTENTION_SETS pending q ≡ true) × (n ≡ bit_or q m)
-
 -- of the sets of attentions, what they are for an owner with one of the registrations that there may be
 pub record AreTold (c : Transition) (owners pending told : BitSet) : Type 0 where
   pub all : (r q : ℕ) → first MOST_REGISTRATIONS owners r ≡ true → first ATTENTION_SETS pending q ≡ true → has told (bit_or q (mark c r)) ≡ true

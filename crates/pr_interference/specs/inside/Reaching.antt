@@ -18,7 +18,6 @@ use Rattle.pr_attention.specs.declared.flags.TheConstants.{RESERVATIONS_PREEMPTE
 use Rattle.pr_views.specs.Possibilities.{Scope, Item, Registration, Reservation, Attentions, IsSo, number_of}
 use Rattle.pr_views.specs.Views.{IsPossible, Shows}
 use Rattle.pr_views.specs.Portions.{has_at, view_in}
-use Rattle.pr_regions.specs.declared.place.Place.{Place}
 use Rattle.pr_interference.specs.declared.onlooker.Onlooker.{Onlooker}
 use Rattle.pr_interference.specs.declared.holders.Holders.{Holders}
 use Rattle.pr_interference.specs.declared.reach.Reach.{Reach}
@@ -65,17 +64,13 @@ pub record IsAtMost (s : Scope) (most : Possibilities) (u w : UnitState) : Type 
   pub numbered : (g : ℕ) → g < s.hosts → (r : ℕ) × IsSo s w (Registration g r)
   pub pending : (q : ℕ) × IsSo s w (Attentions q)
 
--- whatever a command of the clause leads to from a shown state is in reach
-abbrev pub IsReach : Scope → Possibilities → Clause → ℕ → Reach → Type 0
-IsReach s view clause sender reach = (x : ℕ) (u w : UnitState) → PlaceLeads (view_in s view) clause sender x u w → IsWithin s sender reach u w
+-- whatever a command of the clause leads to under this reservation is in reach
+abbrev pub IsReach : Scope → Possibilities → Clause → ℕ → ℕ → Reach → Type 0
+IsReach s view clause sender x reach = (u w : UnitState) → PlaceLeads (view_in s view) clause sender x u w → IsWithin s sender reach u w
 
--- so it is in each view of the onlooker's
+-- so it is in each view of the onlooker's, under every reservation
 abbrev pub Reaches : Onlooker → Clause → Reach → Type 0
-Reaches o clause reach = (s : Scope) → IsOnlooking s o → IsReach s o.view clause o.other reach
-
--- the same under the reservation of a place, by its sender
-abbrev pub IsReachAt : Scope → Possibilities → Clause → Place → Reach → Type 0
-IsReachAt s view clause place reach = (u w : UnitState) → PlaceLeads (view_in s view) clause place.sender place.reservation u w → IsWithin s place.sender reach u w
+Reaches o clause reach = (s : Scope) → IsOnlooking s o → (x : ℕ) → IsReach s o.view clause o.other x reach
 
 -- each but the sender may be free or have the key of this number
 abbrev pub MayAllGo : Possibilities → ℕ → ℕ → ℕ → Type 0

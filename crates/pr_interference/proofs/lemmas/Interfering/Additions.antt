@@ -1,5 +1,8 @@
 -- What is added to possibilities, step by step.
-use Rattle.pr_interference.proofs.Common.{◌≡◌, ℕ, ◌+◌, ◌<◌, true, false, ◌≢◌, ◌⊎◌, List, length, ◌==◌, slice_index_or, sym, ap, ◌∙◌, subst, inl, inr, arith, eqb_tells, get_or_default, BitSet, UnitState, view_in, Scope, Item, IsPossible, Possibilities, IsAt, Changes, Place, Branch, Transition, Adds, adds_both, IsJoined, Among, IsLedBy, IsLeftBy}
+use Rattle.pr_interference.proofs.Common.{◌≡◌, ℕ, ◌+◌, ◌<◌, ◌≢◌, ◌⊎◌, List, length, slice_index_or, sym, ap, ◌∙◌, subst, inl, inr, arith, get_or_default, BitSet, UnitState, view_in, Scope, Item, IsPossible, Possibilities, IsAt, Changes, Place, Branch, Transition, Adds, adds_both, IsJoined, Any, IsLedBy, IsLeftBy}
+use Rattle.std.proofs.Common.{take}
+use Rattle.std.proofs.lemmas.Bool.{cases_eq}
+use Rattle.std.proofs.lemmas.List.{length-take-le, get_or-take}
 use Rattle.pr_regions.specs.declared.region.Region.{Region}
 use Rattle.pr_regions.specs.declared.region.Ending.TheVariants as ending
 use Rattle.pr_interference.specs.inside.Interfering.{IsAfter, IsChanged}
@@ -31,38 +34,40 @@ adds_after s view old after new place senders region change is joined = record {
     only i (inl had) = inl had
     only i (inr got) = inr (is.only i got)
 
--- ---- the elements of a list, one after another
+-- ---- one after another
 
-module _ {X : Type 0} (P : X → Type 0) (xs : List X) where
-  pub among_there : (n : ℕ) (x : X) → x ≡ slice_index_or xs n x → Among n xs P ⊎ P x → Among (n + 1) xs P
-  among_there n x read (inl before) =
-      record { element = before.element; place = before.place; below = (let below = before.below in omega arith); there = before.there; is = before.is }
-  among_there n x read (inr here) = record { element = x; place = n; below = omega arith; there = sym read; is = here }
-
-  pub among_back : (n : ℕ) (x : X) → n < length xs → x ≡ slice_index_or xs n x → Among (n + 1) xs P → Among n xs P ⊎ P x
-  among_back n x small read among = at (eqb_tells among.place n)
-    where
-      at : (((among.place == n) ≡ true) × (among.place ≡ n)) ⊎ (((among.place == n) ≡ false) × (among.place ≢ n)) → Among n xs P ⊎ P x
-      at (inl same) = inr (subst P (sym among.there ∙ ap (λ k. slice_index_or xs k among.element) same.1 ∙ get_or_default xs n among.element x small ∙ sym read) among.is)
-      at (inr other) = inl (record {
-        element = among.element;
-        place = among.place;
-        below = (let below = among.below in let differs = other.1 in omega arith);
-        there = among.there;
-        is = among.is;
-      })
+-- what is of one of the first numbers is of one before the last, or of the last
+pub below_or_last : (P : ℕ → Type 0) (n : ℕ) → (k : ℕ) × (k < n + 1) × P k → ((k : ℕ) × (k < n) × P k) ⊎ P n
+below_or_last P n found = at (cases_eq found.0 n)
+  where
+    at : (found.0 ≡ n) ⊎ (found.0 ≢ n) → ((k : ℕ) × (k < n) × P k) ⊎ P n
+    at (inl same) = inr (subst P same found.2)
+    at (inr differs) = inl (found.0, (let below = found.1 in omega arith), found.2)
 
 -- one element more
 pub adds_element : {X : Type 0} (s : Scope) (p q r : Possibilities) (n : ℕ) (xs : List X) (x : X) (leads : X → UnitState → UnitState → Type 0) (leaves : X → Item → Type 0)
     → n < length xs → slice_index_or xs n x ≡ x
-    → Adds s p q (λ u w. Among n xs (λ y. leads y u w)) (λ i. Among n xs (λ y. leaves y i)) → Adds s q r (leads x) (leaves x)
-    → Adds s p r (λ u w. Among (n + 1) xs (λ y. leads y u w)) (λ i. Among (n + 1) xs (λ y. leaves y i))
-adds_element s p q r n xs x leads leaves small there before now =
-    adds_both s p q r (λ u w. Among n xs (λ y. leads y u w)) (leads x) (λ u w. Among (n + 1) xs (λ y. leads y u w))
-    (λ i. Among n xs (λ y. leaves y i)) (leaves x) (λ i. Among (n + 1) xs (λ y. leaves y i)) before now
-    (λ u w among. among_back (λ y. leads y u w) xs n x small (sym there) among)
-    (λ i among. among_there (λ y. leaves y i) xs n x (sym there) (inl among))
-    (λ i is. among_there (λ y. leaves y i) xs n x (sym there) (inr is))
+    → Adds s p q (λ u w. Any (λ y. leads y u w) (take n xs)) (λ i. Any (λ y. leaves y i) xs) → Adds s q r (leads x) (leaves x)
+    → Adds s p r (λ u w. Any (λ y. leads y u w) (take (n + 1) xs)) (λ i. Any (λ y. leaves y i) xs)
+adds_element {X} s p q r n xs x leads leaves small there before now =
+    adds_both s p q r (λ u w. Any (λ y. leads y u w) (take n xs)) (leads x) (λ u w. Any (λ y. leads y u w) (take (n + 1) xs))
+    (λ i. Any (λ y. leaves y i) xs) (leaves x) (λ i. Any (λ y. leaves y i) xs) before now
+    (λ u w among. split (λ y. leads y u w) among) (λ i among. among) (λ i left. (n, x, small, there, left))
+  where
+    split : (P : X → Type 0) → Any P (take (n + 1) xs) → Any P (take n xs) ⊎ P x
+    split P (k, y, below, is, holds) = at (cases_eq k n)
+      where
+        small_k : k < n + 1
+        small_k = subst (λ m. k < m) (length-take-le (n + 1) xs (omega arith)) below
+
+        here : slice_index_or xs k y ≡ y
+        here = sym (get_or-take (n + 1) xs k y small_k) ∙ is
+
+        at : (k ≡ n) ⊎ (k ≢ n) → Any P (take n xs) ⊎ P x
+        at (inl same) = inr (subst P (sym here ∙ ap (λ j. slice_index_or xs j y) same ∙ get_or_default xs n y x small ∙ there) holds)
+        at (inr differs) =
+            let before : k < n = (let small = small_k in omega arith) in
+            inl (k, y, subst (λ m. k < m) (sym (length-take-le n xs (omega arith))) before, get_or-take n xs k y before ∙ here, holds)
 
 -- ---- a branch
 

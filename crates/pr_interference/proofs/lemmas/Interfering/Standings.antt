@@ -1,5 +1,5 @@
 -- What a clause leads to under one reservation, by how its sender stands to what it asks for.
-use Rattle.pr_interference.proofs.Common.{◌≡◌, ℕ, zero, suc, ◌<◌, ◌≤◌, Bool, true, false, not, ◌||◌, List, length, if◌then◌else◌, Some, None, Option, sym, refl, ap, ◌∙◌, subst, arith, false≢true, and_parts, and_from, has, BitSet, Command, State, key_of, is_registered, IsKey, Held, UnitState, effect, is_action, AreDeclared, names, holds, Clause, has_at, view_in, Scope, Item, Registration, Reservation, IsSo, Shows, IsAt, purpose_of, Changes, Place, Purpose, Branch, Transition, same_reservation, few_keys, Onlooker, purpose_for, StandingLeads, IsWatched, Among, IsLedBy, IsLeftBy, ClauseLeaves, MOST_KEYS}
+use Rattle.pr_interference.proofs.Common.{◌≡◌, ℕ, zero, suc, ◌<◌, ◌≤◌, Bool, true, false, not, ◌||◌, List, if◌then◌else◌, Some, None, Option, sym, refl, ap, ◌∙◌, subst, arith, false≢true, and_parts, and_from, has, BitSet, Command, State, key_of, is_registered, IsKey, Held, UnitState, effect, is_action, AreDeclared, names, holds, Clause, has_at, view_in, Scope, Item, Registration, Reservation, IsSo, Shows, IsAt, purpose_of, Changes, Place, Purpose, Branch, Transition, same_reservation, few_keys, Onlooker, purpose_for, StandingLeads, IsWatched, Any, IsLedBy, IsLeftBy, ClauseLeaves, MOST_KEYS}
 use Rattle.std.proofs.Common.{is_some}
 use Rattle.pr_unit.specs.Conduct.{command_conflicts, command_fault}
 use Rattle.pr_unit.specs.Demands.{is_refused}
@@ -122,20 +122,19 @@ ended s sender (ending.Good change) u c free whole ends = (change, refl, ends.2)
 pub led_by_branches : (s : Scope) (o : Onlooker) (place : Place) (clause : Clause) (p : Purpose) (standing : Standing) (senders : BitSet) (branches : List Branch) (u w : UnitState)
     → IsWatched s o place → AreSenders p standing senders → AreBranches place.hosts p place.held place.sender standing branches
     → StandingLeads (view_in s o.view) clause place.sender place.reservation p standing u w
-    → Among (length branches) branches (λ b. IsLedBy s o.view place senders b u w)
+    → Any (λ b. IsLedBy s o.view place senders b u w) branches
 led_by_branches s o place clause p standing senders branches u w is are right leads =
     let c = leads.leads.command in
     let free = leads.leads.free in
     let met = meets s o place p standing u c is leads.leads.shown leads.leads.reserved leads.stands leads.leads.asked (not_refused u.registry place.sender c free.free) in
     let decided = right s u c is.known.hosts met in
     let covered = decided.covered in
-    let end = ended s place.sender covered.branch.ending u c free.free free.whole (decided.right covered.branch covered.listed covered.inside) in
-    record {
-      element = covered.branch;
-      place = covered.listed.0;
-      below = covered.listed.1;
-      there = covered.listed.2;
-      is = record {
+    let end = ended s place.sender covered.branch.ending u c free.free free.whole (decided.right covered.branch covered.listed covered.inside) in (
+      covered.listed.0,
+      covered.branch,
+      covered.listed.1,
+      covered.listed.2,
+      record {
         change = end.0;
         good = end.1;
         at = record {
@@ -145,8 +144,8 @@ led_by_branches s o place clause p standing senders branches u w is are right le
           inside = covered.inside;
         };
         changes = subst (λ x. Changes s place.sender end.0 u x) (sym leads.leads.after) end.2;
-      };
-    }
+      },
+    )
 
 spelled : (s : Scope) (u : State) (sender : ℕ) (clause : Clause) (p : Purpose) (held : Option Held) (standing : Standing) → AreDeclared s.keys → is_action s.keys clause.action ≡ true
     → ((k : ℕ) → key_of u sender ≡ Some k → IsKey k) → purpose_for s.keys clause.action held ≡ Some p → may_send clause.condition p held sender standing ≡ true
@@ -164,26 +163,17 @@ spelled s u sender clause p held standing declared fits keys meant may None is r
 pub left_by_branches : (s : Scope) (o : Onlooker) (place : Place) (clause : Clause) (p : Purpose) (standing : Standing) (senders : BitSet) (branches : List Branch) (i : Item)
     → IsWatched s o place → AreSenders p standing senders → AreBranches place.hosts p place.held place.sender standing branches
     → is_action s.keys clause.action ≡ true → purpose_for s.keys clause.action place.held ≡ Some p → may_send clause.condition p place.held place.sender standing ≡ true
-    → Among (length branches) branches (λ b. IsLeftBy s o.view place senders b i) → ClauseLeaves (view_in s o.view) clause place.sender i
-left_by_branches s o place clause p standing senders branches i is are right fits meant may among = record {
-  from = u;
-  shown = at.shown;
-  command = spelt.command;
-  free = record {
-    fits = spelt.fits;
-    acts = spelt.acts;
-    permitted = and_from (names clause.action spelt.command) (holds clause.condition u.registry place.sender) spelt.named holding;
-    free = good.0;
-    whole = good.1;
-  };
-  is = among.is.changed.is (effect u place.sender spelt.command) good.2;
-}
+    → Any (λ b. IsLeftBy s o.view place senders b i) branches → ClauseLeaves (view_in s o.view) clause place.sender i
+left_by_branches s o place clause p standing senders branches i is are right fits meant may among = (u, after, record { shown = at.shown; command = spelt.command; free = free; after = refl }, left.changed.is after good.2)
   where
-    u : UnitState
-    u = among.is.changed.from
+    left : IsLeftBy s o.view place senders among.1 i
+    left = among.4
 
-    at : IsAt (view_in s o.view) place senders among.element.region u
-    at = among.is.changed.at
+    u : UnitState
+    u = left.changed.from
+
+    at : IsAt (view_in s o.view) place senders among.1.region u
+    at = left.changed.at
 
     below : place.sender < s.hosts
     below = subst (λ n. place.sender < n) (sym is.known.hosts) place.there
@@ -209,5 +199,17 @@ left_by_branches s o place clause p standing senders branches i is are right fit
     met : Meets s p place.held place.sender standing u spelt.command
     met = meets s o place p standing u spelt.command is at.shown at.reservation stands spelt.asked (ap (λ k. is_refused k spelt.command) key.is ∙ spelt.accepted)
 
-    good : Ends s place.sender (ending.Good among.is.change) u spelt.command
-    good = subst (λ e. Ends s place.sender e u spelt.command) among.is.good ((right s u spelt.command is.known.hosts met).right among.element (among.place, among.below, among.there) at.inside)
+    good : Ends s place.sender (ending.Good left.change) u spelt.command
+    good = subst (λ e. Ends s place.sender e u spelt.command) left.good ((right s u spelt.command is.known.hosts met).right among.1 (among.0, among.2, among.3) at.inside)
+
+    free : IsFree clause place.sender u spelt.command
+    free = record {
+      fits = spelt.fits;
+      acts = spelt.acts;
+      permitted = and_from (names clause.action spelt.command) (holds clause.condition u.registry place.sender) spelt.named holding;
+      free = good.0;
+      whole = good.1;
+    }
+
+    after : UnitState
+    after = effect u place.sender spelt.command

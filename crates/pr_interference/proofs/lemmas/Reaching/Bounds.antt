@@ -1,5 +1,5 @@
 -- The reach of each clause, and what is possible within it.
-use Rattle.pr_interference.proofs.Common.{◌≡◌, ℕ, zero, suc, ◌<◌, ◌≤◌, Bool, true, false, not, ◌&&◌, ◌||◌, ◌≢◌, ◌⊎◌, List, length, if◌then◌else◌, ◌==◌, bit_or, Some, None, Option, sym, refl, ap, ◌∙◌, subst, inl, inr, arith, false≢true, and_parts, eqb_tells, nat_tests, has_wide, has, BitSet, MOST_NEXUSES, Kind, is_kind, is_told_of_loss, is_held_by_all, key_of, is_registered, kind_of, new_reservation, IsKey, Held, One, UnitState, is_action, names, holds, Action, Clause, has_at, view_in, Scope, number_of, Item, Registration, Reservation, Attentions, IsSo, IsPossible, Shows, Possibilities, one_registration, one_attentions, number_in, purpose_of_preempt, Place, Purpose, Allows, Adds, same_reservation, few_keys, Onlooker, Reach, purpose_for, PlaceLeads, FirstLeads, IsWatched, IsOnlooking, ClauseLeaves, ATTENTION_SETS, MOST_KEYS, or_left}
+use Rattle.pr_interference.proofs.Common.{◌≡◌, ℕ, zero, suc, ◌<◌, ◌≤◌, Bool, true, false, not, ◌&&◌, ◌||◌, ◌≢◌, ◌⊎◌, List, length, if◌then◌else◌, ◌==◌, bit_or, Some, None, Option, sym, refl, ap, ◌∙◌, subst, inl, inr, arith, false≢true, and_parts, eqb_tells, nat_tests, has_wide, has, BitSet, MOST_NEXUSES, Kind, is_kind, is_told_of_loss, is_held_by_all, key_of, is_registered, kind_of, new_reservation, IsKey, Held, One, UnitState, is_action, names, holds, Action, Clause, has_at, view_in, Scope, number_of, Item, Registration, Reservation, Attentions, IsSo, IsPossible, Shows, Possibilities, one_registration, one_attentions, number_in, purpose_of_preempt, Place, Purpose, Allows, Adds, same_reservation, few_keys, Onlooker, Reach, purpose_for, IsClause, PlaceLeads, IsWatched, IsOnlooking, ClauseLeads, ClauseLeaves, count_of_reservations, ATTENTION_SETS, MOST_KEYS, or_left}
 use Rattle.pr_unit.specs.declared.demand.Demand.TheVariants.{Register, Unregister, Reserve, Release, Clear, PreemptAll, Preempt}
 use Rattle.std.specs.List.{All as Each}
 use Rattle.std.proofs.lemmas.Bool.{or_right}
@@ -22,8 +22,9 @@ use Rattle.pr_regions.proofs.lemmas.Purposes.Conduct.{key_named, after_for, chan
 use Rattle.pr_regions.proofs.lemmas.Regions.ChangedStates.{then_in}
 use Rattle.pr_regions.specs.Conditions.{holds_as}
 use Rattle.pr_regions.proofs.lemmas.Conditions.Senders.{holds_by}
-use Rattle.pr_interference.specs.inside.Reaching.{IsTold, IsWithin, IsAtMost, IsReach, IsReachAt, MayAllGo, IsMost, HasShown, HasEveryKey, HasEveryKeyBut}
+use Rattle.pr_interference.specs.inside.Reaching.{IsTold, IsWithin, IsAtMost, IsReach, MayAllGo, IsMost, HasShown, HasEveryKey, HasEveryKeyBut}
 use Rattle.pr_interference.proofs.lemmas.Interfering.Placements.{has_number}
+use Rattle.pr_interference.proofs.lemmas.Interfering.RoleEffects.{adds_placed}
 use Rattle.pr_interference.proofs.lemmas.Clauses.Spellings.{not_refused}
 use Rattle.pr_interference.proofs.lemmas.Reaching.Effects.{register_within, unregister_within, reserve_within, release_within, clear_within, preempt_all_within, preempt_key_within}
 
@@ -64,14 +65,14 @@ module _ (s : Scope) (o : Onlooker) (place : Place) (clause : Clause) (reach : R
 
   -- ---- action by action
 
-  pub register_reach : (key : ℕ) → clause.action ≡ action.Register key → has reach.given (number_in s.keys key) ≡ true → IsReachAt s o.view clause place reach
+  pub register_reach : (key : ℕ) → clause.action ≡ action.Register key → has reach.given (number_in s.keys key) ≡ true → IsReach s o.view clause place.sender place.reservation reach
   register_reach key acts gives u w led =
       let j = number_in s.keys key in
       let known = served u w (action.Register key) (Register j) led acts refl in
       within u w (Register j) known (register_within s place.sender reach u few is.other j (key_named s.keys j) known.named.0 known.named.1 gives)
 
   pub unregister_reach : clause.action ≡ action.Unregister → has reach.given 0 ≡ true → ((holds_alone place.held place.sender || is_held_by_all place.held) ≡ true → has_wide reach.reservations 0 ≡ true)
-      → ((holds_alone place.held place.sender && is_told_of_loss place.held) ≡ true → HasEveryKey reach.told_04) → IsReachAt s o.view clause place reach
+      → ((holds_alone place.held place.sender && is_told_of_loss place.held) ≡ true → HasEveryKey reach.told_04) → IsReach s o.view clause place.sender place.reservation reach
   unregister_reach acts gives ends tells u w led =
       let held = stands u w led in
       within u w Unregister (served u w action.Unregister Unregister led acts refl)
@@ -79,7 +80,7 @@ module _ (s : Scope) (o : Onlooker) (place : Place) (clause : Clause) (reach : R
       (λ e. tells (subst (λ v. (holds_alone v place.sender && is_told_of_loss v) ≡ true) held e)))
 
   pub reserve_reach : (t : Kind) → clause.action ≡ action.Reserve t → (place.held ≡ None → has_wide reach.reservations (number_of place.hosts (Some (new_reservation t place.sender))) ≡ true)
-      → IsReachAt s o.view clause place reach
+      → IsReach s o.view clause place.sender place.reservation reach
   reserve_reach t acts takes u w led =
       within u w (Reserve t) (served u w (action.Reserve t) (Reserve t) led acts refl) (reserve_within s place.sender reach u few is.other t (λ none. here (takes (sym (stands u w led) ∙ none))))
     where
@@ -87,7 +88,7 @@ module _ (s : Scope) (o : Onlooker) (place : Place) (clause : Clause) (reach : R
       here = subst (λ n. has_wide reach.reservations (number_of n (Some (new_reservation t place.sender))) ≡ true) (sym is.known.hosts)
 
   pub release_reach : clause.action ≡ action.Release → ((holds_alone place.held place.sender || is_held_by_all place.held) ≡ true → has_wide reach.reservations 0 ≡ true)
-      → (((holds_alone place.held place.sender || is_held_by_all place.held) && is_told_of_loss place.held) ≡ true → HasEveryKey reach.told_04) → IsReachAt s o.view clause place reach
+      → (((holds_alone place.held place.sender || is_held_by_all place.held) && is_told_of_loss place.held) ≡ true → HasEveryKey reach.told_04) → IsReach s o.view clause place.sender place.reservation reach
   release_reach acts ends tells u w led = at u.registry.held refl
     where
       at : (v : Option Held) → u.registry.held ≡ v → IsWithin s place.sender reach u w
@@ -102,13 +103,13 @@ module _ (s : Scope) (o : Onlooker) (place : Place) (clause : Clause) (reach : R
           (λ e. tells (subst (λ x. ((holds_alone x place.sender || is_held_by_all x) && is_told_of_loss x) ≡ true) held e)))
 
   pub clear_reach : clause.action ≡ action.Clear → has reach.given 0 ≡ true → HasEveryKey reach.removed → has_wide reach.reservations 0 ≡ true
-      → HasEveryKey reach.told_03 → IsReachAt s o.view clause place reach
+      → HasEveryKey reach.told_03 → IsReach s o.view clause place.sender place.reservation reach
   clear_reach acts gives removes none tells u w led =
       within u w Clear (served u w action.Clear Clear led acts refl) (clear_within s place.sender reach u few is.other gives removes none tells)
 
   pub preempt_all_reach : (key : ℕ) (t : Kind) → clause.action ≡ action.Preempt key t → key ≡ 0 → (is_held_by_all place.held ≡ true → HasEveryKey reach.removed)
       → (is_held_by_all place.held ≡ true → has_wide reach.reservations (number_of place.hosts (Some (new_reservation t place.sender))) ≡ true)
-      → (is_held_by_all place.held ≡ true → HasEveryKey reach.told_05) → IsReachAt s o.view clause place reach
+      → (is_held_by_all place.held ≡ true → HasEveryKey reach.told_05) → IsReach s o.view clause place.sender place.reservation reach
   preempt_all_reach key t acts zero_is removes takes tells u w led =
       let known = served u w (action.Preempt 0 t) (PreemptAll t) led (acts ∙ ap (λ k. action.Preempt k t) zero_is) refl in
       let all = by_all (illegal INVALID_FIELD_IN_PARAMETER_LIST 0) (is_held_by_all u.registry.held) known.whole in
@@ -126,7 +127,7 @@ module _ (s : Scope) (o : Onlooker) (place : Place) (clause : Clause) (reach : R
       → ((old : Kind) (g : ℕ) → place.held ≡ Some (One old g) → has_at o.view.registrations g (number_in s.keys key) ≡ true → has_wide reach.reservations (number_of place.hosts (Some (new_reservation t place.sender))) ≡ true)
       → ((old : Kind) (g : ℕ) → place.held ≡ Some (One old g) → has_at o.view.registrations g (number_in s.keys key) ≡ true → is_kind old t ≡ false
       → HasEveryKeyBut (number_in s.keys key) reach.told_04)
-      → has reach.told_05 (number_in s.keys key) ≡ true → IsReachAt s o.view clause place reach
+      → has reach.told_05 (number_in s.keys key) ≡ true → IsReach s o.view clause place.sender place.reservation reach
   preempt_key_reach key t acts some gives ends removes takes released removed u w led =
       let known = served u w (action.Preempt key t) (Preempt j t) led acts (ap (λ p. Some p) asks) in
       let named = known.named in
@@ -189,7 +190,7 @@ module _ (s : Scope) (o : Onlooker) (place : Place) (clause : Clause) (reach : R
           grind (arith, nat_tests)
 
   -- a condition that no registered sender meets is met by none
-  pub forbidden_reach : holds_as clause.condition place.held place.sender true ≡ false → IsReachAt s o.view clause place reach
+  pub forbidden_reach : holds_as clause.condition place.held place.sender true ≡ false → IsReach s o.view clause place.sender place.reservation reach
   forbidden_reach none u w led =
       let permitted = (and_parts (names clause.action led.leads.command) (holds clause.condition u.registry place.sender) led.leads.free.permitted).1 in
       let meets = subst (λ v. holds_as clause.condition v place.sender (is_registered u.registry place.sender) ≡ true) (stands u w led) (sym (holds_by clause.condition u.registry place.sender) ∙ permitted) in
@@ -211,7 +212,7 @@ module _ (s : Scope) (o : Onlooker) (clause : Clause) (reach : Reach) (is : IsOn
     pub reservations : (x : ℕ) → has_wide reach.reservations x ≡ true → has_wide most.reservations x ≡ true
     pub pending : (r q n : ℕ) → has_at o.view.registrations s.own r ≡ true → has o.view.pending q ≡ true → q < ATTENTION_SETS → IsTold reach r q n → has most.pending n ≡ true
 
-  pub most_of_reach : (most : Possibilities) → IsReach s o.view clause o.other reach → AreWithin most → IsMost s o.view clause o.other most
+  pub most_of_reach : (most : Possibilities) → ((x : ℕ) → IsReach s o.view clause o.other x reach) → AreWithin most → IsMost s o.view clause o.other most
   most_of_reach most reaches are x u w led = record {
     items = items;
     numbered = λ g there. let n = numbered g there in (n.0, n.1);
@@ -292,24 +293,17 @@ module _ (s : Scope) (o : Onlooker) (clause : Clause) (reach : Reach) (is : IsOn
 
 -- ---- an answer that has the most
 
-pub adds_most : (s : Scope) (o : Onlooker) (clause : Clause) (old answer most : Possibilities) (n count : ℕ) → HasShown s o.view old → IsMost s o.view clause o.other most
-    → ((i : Item) → IsPossible (view_in s most) i → IsPossible (view_in s answer) i) → Adds s old answer (FirstLeads n (view_in s o.view) clause o.other) (ClauseLeaves (view_in s o.view) clause o.other)
-    → Adds s old answer (FirstLeads count (view_in s o.view) clause o.other) (ClauseLeaves (view_in s o.view) clause o.other)
-adds_most s o clause old answer most n count shown is has adds = record { kept = adds.kept; all = all; only = adds.only }
+pub adds_most : (s : Scope) (o : Onlooker) (clause : Clause) (old answer : Possibilities) (Leads : UnitState → UnitState → Type 0) → IsOnlooking s o → IsClause o.keys.now clause → HasShown s o.view old
+    → IsMost s o.view clause o.other answer → Adds s old answer Leads (ClauseLeaves (view_in s o.view) clause o.other)
+    → Adds s old answer (ClauseLeads (view_in s o.view) clause o.other) (ClauseLeaves (view_in s o.view) clause o.other)
+adds_most s o clause old answer Leads is declared shown most adds = adds_placed s o clause old answer is declared shown (record { kept = adds.kept; all = all; only = adds.only })
   where
-    all : (u w : UnitState) → FirstLeads count (view_in s o.view) clause o.other u w → Allows s answer w
+    all : (u w : UnitState) → (x : ℕ) × (x < count_of_reservations o.hosts) × PlaceLeads (view_in s o.view) clause o.other x u w → Allows s answer w
     all u w led = record { items = λ i so. at i (known.items i so); numbered = known.numbered; pending = known.pending }
       where
-        known : IsAtMost s most u w
-        known = is led.reservation u w led.leads
+        known : IsAtMost s answer u w
+        known = most led.0 u w led.2
 
-        at : (i : Item) → IsSo s u i ⊎ IsPossible (view_in s most) i → IsPossible (view_in s answer) i
-        at i (inl before) = adds.kept i (shown u i led.leads.leads.shown before)
-        at i (inr possible) = has i possible
-
--- ---- what a list of words has at a place
-
--- ---- the attentions that are told
-
-abbrev pub Marks : BitSet → BitSet → BitSet → ℕ → BitSet → Type 0
-Marks owners told pending mark result = (r q : ℕ) → has owners r ≡ true → has told r ≡ true → has pending q ≡ true → q < ATTENTION_SETS → has result (bit_or q mark) ≡ true
+        at : (i : Item) → IsSo s u i ⊎ IsPossible (view_in s answer) i → IsPossible (view_in s answer) i
+        at i (inl before) = adds.kept i (shown u i led.2.leads.shown before)
+        at i (inr possible) = possible

@@ -8,12 +8,12 @@ use Rattle.pr_regions.specs.Conditions.{holds_as}
 use Rattle.pr_sets.specs.declared.wide.Wide.{Wide}
 use Rattle.pr_views.proofs.lemmas.Possibilities.Numbers.{held_at, number_of-held_at}
 use Rattle.pr_interference.specs.declared.holders.Holders.{Holders}
-use Rattle.pr_interference.specs.inside.Reaching.{AreHolders, IsHeldAmong, IsReach, IsReachAt}
+use Rattle.pr_interference.specs.inside.Reaching.{AreHolders, IsHeldAmong, IsReach}
 use Rattle.pr_interference.proofs.lemmas.Reaching.Bounds.{forbidden_reach}
 
 -- What is reached at each place of the other's is reached.
 pub reach_of_places : (s : Scope) (o : Onlooker) (clause : Clause) (reach : Reach) → IsOnlooking s o
-    → ((place : Place) → place.hosts ≡ o.hosts → place.sender ≡ o.other → IsWatched s o place → IsReachAt s o.view clause place reach) → IsReach s o.view clause o.other reach
+    → ((place : Place) → place.hosts ≡ o.hosts → place.sender ≡ o.other → IsWatched s o place → IsReach s o.view clause place.sender place.reservation reach) → (x : ℕ) → IsReach s o.view clause o.other x reach
 reach_of_places s o clause reach is each x u w led =
     each place refl refl (record { known = record { hosts = is.hosts; fits = is.fits; possible = possible }; own = is.own; other = is.other }) u w led
   where
@@ -45,21 +45,21 @@ module _ (s : Scope) (o : Onlooker) (place : Place) (is : IsWatched s o place) w
 -- What is reached under each reservation that they may hold, where the condition is met, is reached.
 pub reach_of_held : (s : Scope) (o : Onlooker) (clause : Clause) (reach : Reach) (holders met : Holders) → IsOnlooking s o → IsClause o.keys.now clause → AreHolders o.hosts o.view.reservations holders
     → ((held : Option Held) → IsHeldAmong holders held → holds_as clause.condition held o.other true ≡ true → IsHeldAmong met held)
-    → ((place : Place) → place.hosts ≡ o.hosts → place.sender ≡ o.other → IsWatched s o place → is_action s.keys clause.action ≡ true → IsHeldAmong met place.held → IsReachAt s o.view clause place reach)
-    → IsReach s o.view clause o.other reach
+    → ((place : Place) → place.hosts ≡ o.hosts → place.sender ≡ o.other → IsWatched s o place → is_action s.keys clause.action ≡ true → IsHeldAmong met place.held → IsReach s o.view clause place.sender place.reservation reach)
+    → (x : ℕ) → IsReach s o.view clause o.other x reach
 reach_of_held s o clause reach holders met is fits are meets each = reach_of_places s o clause reach is at
   where
     named : is_action s.keys clause.action ≡ true
     named = subst (λ k. is_action k clause.action ≡ true) (sym is.keys) fits
 
-    at : (place : Place) → place.hosts ≡ o.hosts → place.sender ≡ o.other → IsWatched s o place → IsReachAt s o.view clause place reach
+    at : (place : Place) → place.hosts ≡ o.hosts → place.sender ≡ o.other → IsWatched s o place → IsReach s o.view clause place.sender place.reservation reach
     at place hosts sender watched = by (holds_as clause.condition place.held place.sender true) refl
       where
         held : IsHeldAmong holders place.held
         held = are place.held (subst (λ n. is_reservation n place.held ≡ true) hosts place.fits)
             (subst (λ n. has_wide o.view.reservations (number_of n place.held) ≡ true) hosts (possible_by_number s o place watched))
 
-        by : (b : Bool) → holds_as clause.condition place.held place.sender true ≡ b → IsReachAt s o.view clause place reach
+        by : (b : Bool) → holds_as clause.condition place.held place.sender true ≡ b → IsReach s o.view clause place.sender place.reservation reach
         by true there = each place hosts sender watched named (meets place.held held (subst (λ g. holds_as clause.condition place.held g true ≡ true) sender there))
         by false none = forbidden_reach s o place clause reach watched named none
 

@@ -1,4 +1,5 @@
-use Rattle.pr_interference.proofs.Common.{◌≡◌, ◌<◌, length, slice_index_or, None, subst, arith, get_or_default, Branch, Adds, Among, IsLedBy, IsLeftBy}
+use Rattle.pr_interference.proofs.Common.{◌≡◌, ◌<◌, length, slice_index_or, None, arith, get_or_default, Branch, IsLedBy, IsLeftBy}
+use Rattle.std.proofs.lemmas.List.{take_all}
 use Rattle.pr_regions.specs.declared.region.Ending.TheVariants as ending
 use Rattle.pr_interference.proofs.lemmas.Interfering.Additions.{adds_element}
 use Rattle.pr_interference.proofs.onlooker.Onlooker.add_branches.Goals as goal
@@ -15,8 +16,4 @@ loop-branch-preserved c s is uniform proper =
     small (get_or_default branches n branch spare small) (c.loop-branch.invariant s is uniform proper) (c.add_branch.ensures s is uniform (proper n spare small))
 
 pub returns : goal.returns
-returns c s is uniform proper = subst (λ n. Adds s c.args.answer.now c.loop-branch.answer (λ u w. Among n c.args.branches.now (λ b. IsLedBy s c.args.self.now.view c.args.place.now c.args.senders b u w))
-    (λ i. Among n c.args.branches.now (λ b. IsLeftBy s c.args.self.now.view c.args.place.now c.args.senders b i))) whole (c.loop-branch.invariant s is uniform proper)
-  where
-    whole : c.loop-branch.branch-index ≡ length c.args.branches.now
-    whole = omega arith
+returns c = rw (take_all c.loop-branch.branch-index c.args.branches.now (omega arith)) at c.loop-branch.invariant

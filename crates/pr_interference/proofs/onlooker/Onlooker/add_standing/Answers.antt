@@ -1,5 +1,4 @@
-use Rattle.pr_interference.proofs.Common.{length, All, sym, refl, ◌∙◌, subst, view_in, Adds, adds_nothing, StandingLeads, Among, IsLedBy, IsLeftBy, ClauseLeaves}
-use Rattle.pr_interference.specs.inside.Interfering.{IsProperBranch}
+use Rattle.pr_interference.proofs.Common.{Any, sym, refl, ◌∙◌, view_in, adds_nothing, StandingLeads, IsLedBy, IsLeftBy, ClauseLeaves}
 use Rattle.pr_interference.proofs.lemmas.Interfering.Additions.{adds_so}
 use Rattle.pr_interference.proofs.lemmas.Interfering.Standings.{uniform, none_send, none_among, led_by_branches, left_by_branches}
 use Rattle.pr_interference.proofs.onlooker.Onlooker.add_standing.Goals as goal
@@ -11,13 +10,10 @@ returns-then-may_send c s is fits meant =
     let clause = c.args.clause.now in
     let branches = c.branches-branches.result.items in
     let senders = c.senders-senders.result in
-    let added : Adds s c.args.answer.now c.add_branches.new.answer (λ u w. Among (length branches) branches (λ b. IsLedBy s o.view place senders b u w))
-    (λ i. Among (length branches) branches (λ b. IsLeftBy s o.view place senders b i)) =
-    subst (λ xs. Adds s c.args.answer.now c.add_branches.new.answer (λ u w. Among (length xs) xs (λ b. IsLedBy s o.view place senders b u w)) (λ i. Among (length xs) xs (λ b. IsLeftBy s o.view place senders b i))) c.deref.ensures.0
-    (c.add_branches.ensures s is (uniform c.args.purpose c.args.standing senders c.senders-senders.ensures) (subst (All IsProperBranch) (sym c.deref.ensures.0) c.branches-branches.ensures.proper)) in
-    adds_so s c.args.answer.now c.add_branches.new.answer (λ u w. Among (length branches) branches (λ b. IsLedBy s o.view place senders b u w))
+    let added = (rw c.deref.ensures.0 at c.add_branches.ensures) s is (uniform c.args.purpose c.args.standing senders c.senders-senders.ensures) c.branches-branches.ensures.proper in
+    adds_so s c.args.answer.now c.add_branches.new.answer (λ u w. Any (λ b. IsLedBy s o.view place senders b u w) branches)
     (StandingLeads (view_in s o.view) clause place.sender place.reservation c.args.purpose c.args.standing)
-    (λ i. Among (length branches) branches (λ b. IsLeftBy s o.view place senders b i)) (ClauseLeaves (view_in s o.view) clause place.sender) added
+    (λ i. Any (λ b. IsLeftBy s o.view place senders b i) branches) (ClauseLeaves (view_in s o.view) clause place.sender) added
     (λ u w leads. led_by_branches s o place clause c.args.purpose c.args.standing senders branches u w is c.senders-senders.ensures c.branches-branches.ensures.right leads)
     (λ i among. left_by_branches s o place clause c.args.purpose c.args.standing senders branches i is c.senders-senders.ensures c.branches-branches.ensures.right fits meant
     (sym c.may_send.ensures ∙ c.if-may_send.true) among)

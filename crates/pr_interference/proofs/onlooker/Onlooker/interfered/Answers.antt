@@ -1,12 +1,7 @@
-use Rattle.pr_interference.proofs.Common.{length, All, sym, subst, view_in, count_of_reservations, Adds, IsClause, FirstLeads, Among, ClauseLeaves}
 use Rattle.pr_interference.proofs.lemmas.Interfering.RoleEffects.{is_interference}
 use Rattle.pr_interference.proofs.onlooker.Onlooker.interfered.Goals as goal
 
 pub returns : goal.returns
 returns c s is =
     let o = c.args.self.now in
-    let clauses = c.args.self.now.clauses.now in
-    is_interference s o clauses c.kept-answer.result c.add_role.new.answer is
-    (subst (λ k. All (IsClause k) clauses) (sym is.keys) c.args.self.now.declared) (c.kept-answer.ensures s is.hosts is.fits)
-    (subst (λ n. Adds s c.kept-answer.result c.add_role.new.answer (λ u w. Among (length clauses) clauses (λ clause. FirstLeads (count_of_reservations n) (view_in s o.view) clause o.other u w))
-    (λ i. Among (length clauses) clauses (λ clause. ClauseLeaves (view_in s o.view) clause o.other i))) (sym is.hosts) (c.add_role.ensures s is))
+    is_interference s o o.clauses.now c.kept-answer.result c.add_role.new.answer is (c.kept-answer.ensures s is.hosts is.fits) (c.add_role.ensures s is)
