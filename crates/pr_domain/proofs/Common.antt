@@ -1,6 +1,6 @@
 -- The names that most proofs of this crate cite, passed on from one place. Declares nothing.
 pub use Rattle.std.proofs.Common.{◌≡◌, ℕ, zero, suc, ◌+◌, ◌-◌, ◌*◌, ◌<◌, ◌≤◌, Bool, true, false, not, ◌&&◌, ◌||◌, ◌≢◌, ◌⊎◌, ◌↔◌, List, [], ◌∷◌, map, length, get_or, take, is_some, IfSome, IfNone, if◌then◌else◌, IsTrue, nat_lt, ◌==◌, slice_get, slice_set, Some, None, All, Contains, Option, option_map, sym, refl, ap, ◌∙◌, subst, inl, inr, arith, lit<, rules}
-pub use Rattle.std.specs.List.{list_any, list_all, AllZip}
+pub use Rattle.std.specs.List.{Any, list_any, list_all, AllZip}
 pub use Rattle.std.specs.Option.{option_map_or}
 pub use Rattle.std.proofs.lemmas.Bool.{false≢true, not-true, cases_lt, and_parts, cases_order, cases_eq, or_cases, and_from, or_left, or_right, eq-eqb, eqb-true}
 pub use Rattle.std.proofs.lemmas.Bool.Decides.{eqb_tells, nat_tests}
@@ -60,9 +60,9 @@ pub use Rattle.pr_domain.specs.Landings.{IsClass, IsLanding}
 pub use Rattle.pr_domain.specs.declared.reporting.Unserved.{Unserved}
 pub use Rattle.pr_domain.specs.declared.tally.Tally.{Tally}
 pub use Rattle.pr_domain.specs.inside.Beginning.{may_have, has_reservation, AreAlternatives}
-pub use Rattle.pr_domain.specs.inside.Reporting.{AreReported, HasOutcome, AreKept, AreMore, HasWords, Ending, Reports, Conflicts, Fails, EndsGood, Refuses, refusal, MayReport, Ends, landing_at, LandsBy, LandsSomehow, LandsGoodBelow, IsOfWay}
+pub use Rattle.pr_domain.specs.inside.Reporting.{AreReported, HasOutcome, AreKept, AreMore, HasWords, Ending, Reports, Conflicts, Fails, EndsGood, Refuses, refusal, MayReport, Ends, landing_at, LandsBy, LandsSomehow, LandsGood, IsOfWay}
 pub use Rattle.pr_domain.specs.inside.Sendings.{scope_of_sending, view_of_sending, IsOfWayAt, LandsOf}
-pub use Rattle.pr_domain.specs.inside.Tallies.{IsRegistered, has_part, has_tallied, arm_of, Leaves, IsFound, Grows, IsRight, IsTally, OneBelow, IsOfPlace, IsInOne, HasBoth, HasOneOf, IsUnder, IsReserved, IsOwners, scope_at, IsOfScope, IsReadAt, IsReadFirst}
+pub use Rattle.pr_domain.specs.inside.Tallies.{IsRegistered, has_part, has_tallied, arm_of, Leaves, IsFound, Grows, IsRight, IsTally, HasBoth, HasOneOf, IsUnder, IsReserved, IsOwners, scope_at, IsOfScope, IsReadAt}
 pub use Rattle.pr_views.specs.declared.view.TheConstants.{ATTENTION_SETS, MOST_REGISTRATIONS}
 pub use Rattle.pr_script.specs.declared.limits.TheConstants.{MOST_ARMS}
 pub use Rattle.pr_roles.specs.declared.limits.TheConstants.{MOST_KEYS}

@@ -90,7 +90,7 @@ fn is_permitted_at(
     let senders = unpermitted(possible, place, clauses, asked.command);
     let mut tally = Tally::none();
     add_senders(&mut tally, view, place, asked, senders);
-    // The third way is GOOD whose data no arm takes, and here are no arms.
+    // Way 3 is GOOD whose data no arm takes, and here are no arms.
     tally.way(3).reservations.is_empty()
 }
 

@@ -168,10 +168,6 @@ LandsSomehow v d c tests l i = (ending : Ending) × IsTrue (comes d ending) × L
 abbrev pub LandsGood : View → Command → List Test → ℕ → Landing → Item → Type 0
 LandsGood v c tests arm l i = (l ≡ landing_at arm) × LandsBy v c tests EndsGood l i
 
--- GOOD with the data taken by one of the first arms
-abbrev pub LandsGoodBelow : View → Command → List Test → ℕ → Landing → Item → Type 0
-LandsGoodBelow v c tests bound l i = (arm : ℕ) × (arm < bound) × LandsGood v c tests arm l i
-
 -- a possibility of registrations and reservation as one way to end leaves them, and of these attentions, where
 -- there is some of each
 pub record IsOfWay (s : Scope) (way : Possibilities) (pending : BitSet) (i : Item) : Type 0 where

@@ -1,7 +1,7 @@
 -- What is found of each way in which a command can end once nothing is pending for its sender, before the
 -- attentions of the owner are looked at.
 use Rattle.std.specs.Prelude.{◌≡◌, ◌⊎◌, ℕ, zero, suc, ◌+◌, ◌<◌, ◌≤◌, length, Bool, true, false, ◌||◌, List, Option, Some, None, is_some}
-use Rattle.std.specs.List.{slice_get, Contains}
+use Rattle.std.specs.List.{All, Any, slice_get}
 use Rattle.std.specs.Option.{option_map_or}
 use Rattle.pr_cdb.specs.declared.command.Command.{Command}
 use Rattle.pr_unit.specs.UnitStates.{UnitState, effect}
@@ -14,7 +14,7 @@ use Rattle.pr_sets.specs.BitSets.{has}
 use Rattle.pr_sets.specs.Wides.{has_wide}
 use Rattle.pr_views.specs.declared.possibilities.Possibilities.{Possibilities}
 use Rattle.pr_roles.specs.Keys.{key_at}
-use Rattle.pr_views.specs.Possibilities.{Scope, Item, Registration, Reservation, Attentions, IsSo}
+use Rattle.pr_views.specs.Possibilities.{Scope, Item, Registration, Reservation, Attentions, IsSo, number_of}
 use Rattle.pr_views.specs.Views.{View, Shows, Fits}
 use Rattle.pr_views.specs.Portions.{has_at, view_in}
 use Rattle.pr_regions.specs.Readings.{first_test}
@@ -108,43 +108,23 @@ pub record IsTally (v : View) (c : Command) (tests : List Test) (t : Tally) : Ty
   pub all : (u : UnitState) (way : ℕ) (i : Item) → Shows v u → Leaves v.scope c tests way u i → has_tallied t way i ≡ true
   pub only : (way : ℕ) (i : Item) (q : ℕ) → has_tallied t way i ≡ true → v.pending q ≡ true → IsFound v c tests (λ u. Unit {0}) way i q
 
--- ---- the branches of a sender, and its registrations
-
--- what is known of each branch
-abbrev pub AreRight : Scope → Command → List Test → Possibilities → Place → BitSet → List Branch → ℕ → Type 0
-AreRight s c tests view place senders branches arm = (b : Branch) → Contains branches b → IsRight s c tests view place senders b arm
-
--- of the state is one of the first n numbers
-abbrev pub OneBelow : ℕ → (ℕ → UnitState → Type 0) → UnitState → Type 0
-OneBelow n IsOf u = (k : ℕ) × (k < n) × IsOf k u
-
--- of the state is the element at this place
-abbrev pub IsOfPlace : {X : Type 0} → List X → (X → UnitState → Type 0) → ℕ → UnitState → Type 0
-IsOfPlace {X} xs IsOf k u = (x : X) × (slice_get xs k ≡ Some x) × IsOf x u
-
--- the state is in the region of one of the first n branches
-abbrev pub IsInOne : View → Place → BitSet → List Branch → ℕ → UnitState → Type 0
-IsInOne v place senders branches n = OneBelow n (IsOfPlace branches (λ b. IsAt v place senders b.region))
+-- ---- the registrations of a sender
 
 -- the reservation of the place stands
 abbrev pub IsUnder : Scope → Place → UnitState → Type 0
 IsUnder s place u = IsSo s u (Reservation place.reservation)
 
--- the reservation of the place stands, and its sender has one of these registrations
-pub record HasOneOf (s : Scope) (place : Place) (senders : BitSet) (u : UnitState) : Type 0 where
-  pub registration : ℕ
-  pub among : has senders registration ≡ true
-  pub reserved : IsSo s u (Reservation place.reservation)
-  pub registered : IsSo s u (Registration place.sender registration)
+-- it stands, and the place's sender has this registration
+abbrev pub HasBoth : Scope → Place → ℕ → UnitState → Type 0
+HasBoth s place r u = IsUnder s place u × IsSo s u (Registration place.sender r)
 
--- the reservation of the place stands, and its sender has this registration
-pub record HasBoth (s : Scope) (place : Place) (r : ℕ) (u : UnitState) : Type 0 where
-  pub reserved : IsSo s u (Reservation place.reservation)
-  pub registered : IsSo s u (Registration place.sender r)
+-- it stands, and the sender has one of these registrations
+abbrev pub HasOneOf : Scope → Place → BitSet → UnitState → Type 0
+HasOneOf s place senders u = (r : ℕ) × (has senders r ≡ true) × HasBoth s place r u
 
 -- one of the first n reservations stands
 abbrev pub IsReserved : Scope → ℕ → UnitState → Type 0
-IsReserved s n = OneBelow n (λ x u. IsSo s u (Reservation x))
+IsReserved s n u = number_of s.hosts u.registry.held < n
 
 -- ---- registrations of the sender that are alike
 
@@ -191,10 +171,6 @@ pub record IsOfScope (s : Scope) (hosts own : ℕ) (keys : List ℕ) (view : Pos
 abbrev pub IsReadAt : Scope → Possibilities → Place → ℕ → Reading → UnitState → Type 0
 IsReadAt s view place r reading u = HasBoth s place r u × IsInRegion s place.sender reading.region u
 
--- the state is so of one of the first n readings
-abbrev pub IsReadFirst : Scope → Possibilities → Place → ℕ → List Reading → ℕ → UnitState → Type 0
-IsReadFirst s view place r readings n = OneBelow n (IsOfPlace readings (IsReadAt s view place r))
-
 -- What is known of a reading: the command only looks, and where the sender has registration r its data is taken by
 -- the arm that the reading names.
 pub record IsRightReading (s : Scope) (c : Command) (tests : List Test) (view : Possibilities) (place : Place) (r : ℕ) (b : Reading) : Type 0 where
@@ -207,9 +183,6 @@ pub record IsRightReading (s : Scope) (c : Command) (tests : List Test) (view : 
       → Ends s s.own (ending.Good change) u c
   pub taken : (u : UnitState) → Shows (view_in s view) u → IsReadAt s view place r b u → first_test tests (good (data_of u.registry c)) ≡ b.arm
 
-abbrev pub AreRightReadings : Scope → Command → List Test → Possibilities → Place → ℕ → List Reading → Type 0
-AreRightReadings s c tests view place r readings = (b : Reading) → Contains readings b → IsRightReading s c tests view place r b
-
 -- ---- what is added to a tally
 
 -- where the branch is right, what the shown states of its region leave
@@ -221,8 +194,8 @@ AddsBranch view place senders b arm old new =
 -- where all branches are, what those of all regions leave
 abbrev pub AddsBranches : Possibilities → Place → BitSet → List Branch → ℕ → Tally → Tally → Type 0
 AddsBranches view place senders branches arm old new =
-    (s : Scope) (c : Command) (tests : List Test) → AreRight s c tests view place senders branches arm
-    → Grows (view_in s view) c tests old new (IsInOne (view_in s view) place senders branches (length branches))
+    (s : Scope) (c : Command) (tests : List Test) → All (λ b. IsRight s c tests view place senders b arm) branches
+    → Grows (view_in s view) c tests old new (λ u. Any (λ b. IsAt (view_in s view) place senders b.region u) branches)
 
 -- where the reservation key is accepted of these registrations, what the shown states leave in which the sender has one of them
 abbrev pub AddsAccepted : Possibilities → Place → Purpose → ℕ → BitSet → Standing → Tally → Tally → Type 0
@@ -242,8 +215,8 @@ AddsReading view place r reading old new =
 -- where all readings are, what those of all leave
 abbrev pub AddsReadings : Possibilities → Place → ℕ → List Reading → Tally → Tally → Type 0
 AddsReadings view place r readings old new =
-    (s : Scope) (c : Command) (tests : List Test) → AreRightReadings s c tests view place r readings
-    → Grows (view_in s view) c tests old new (IsReadFirst s view place r readings (length readings))
+    (s : Scope) (c : Command) (tests : List Test) → All (IsRightReading s c tests view place r) readings
+    → Grows (view_in s view) c tests old new (λ u. Any (λ b. IsReadAt s view place r b u) readings)
 
 -- what is so of registrations and reservation in the shown states of this region is in the tally, of the ways of no conflict and of this arm
 abbrev pub AreTallied : Possibilities → Place → BitSet → Region → ℕ → Tally → Type 0

@@ -61,7 +61,7 @@ module _ (q : TestedCommand) (place : Place) (view : Possibilities) (clauses : L
         at r false may so is =
             let left = number_of place.hosts (effect u place.sender q.command).registry.held in
             absurd (false≢true (sym (empty left) ∙ grows.all u 3 (Reservation left) shown
-            (record { registration = r; among = are r ∙ and_from _ _ (here r may) (ap not is); reserved = under; registered = so })
+            (r, are r ∙ and_from _ _ (here r may) (ap not is), (under, so))
             (served.free, served.whole, ap (λ tests. first_test tests (good (data_of u.registry q.command))) asking.untested, refl)))
 
     -- a reservation that is found of that way is of a state in which it ends GOOD and no clause permits it
@@ -72,14 +72,14 @@ module _ (q : TestedCommand) (place : Place) (view : Possibilities) (clauses : L
             ⊎ IsFound (view_of_asker q place.hosts place.sender view) q.command q.tests.now (HasOneOf (scope_at q.keys.now place.hosts place.sender) place senders) 3 (Reservation x) 0 → RefusesAt q place view clauses
         at (inl old) = absurd (false≢true (sym (nothing 3 (Reservation x)) ∙ old))
         at (inr found) =
-            let r = found.among.registration in
-            let unpermitted = (and_parts (has there r) (not (is_one_permitting clauses q.command place (not (r == 0)))) (sym (are r) ∙ found.among.among)).1 in
+            let r = found.among.0 in
+            let unpermitted = (and_parts (has there r) (not (is_one_permitting clauses q.command place (not (r == 0)))) (sym (are r) ∙ found.among.1)).1 in
             record {
               unit = found.unit;
               shown = found.shown;
-              among = found.among.reserved;
+              among = found.among.2.0;
               served = record { idle = found.pending; free = found.leaves.0; whole = found.leaves.1 };
-              refused = by_number r found.unit found.shown found.among.reserved found.among.registered.1 found.among.registered.2
+              refused = by_number r found.unit found.shown found.among.2.0 found.among.2.1.1 found.among.2.1.2
                   ∙ not-true (is_one_permitting clauses q.command place (not (r == 0))) unpermitted;
             }
 

@@ -1,7 +1,7 @@
 -- READ KEYS and READ RESERVATION: which arm takes their data.
-use Rattle.pr_domain.proofs.Common.{◌≡◌, ℕ, ◌<◌, ◌≤◌, true, false, ◌||◌, List, length, IfSome, IfNone, ◌==◌, Some, None, All, Contains, Option, sym, refl, ap, ◌∙◌, subst, arith, false≢true, and_parts, nat_tests, slice_get-get_or, has, BitSet, Command, State, key_of, good, data_of, UnitState, test_fits, matches, Test, view_in, Scope, Shows, Possibilities, one_registration, IsPlace, IsAt, purpose_of, is_refused, first_test, standing_of, Place, Branch, Reading, Transition, same_reservation, arm_of, IsRight, HasBoth, IsOwners, IsReadAt, IsReadFirst, MOST_ARMS}
+use Rattle.pr_domain.proofs.Common.{◌≡◌, ℕ, ◌<◌, ◌≤◌, true, false, ◌||◌, List, length, IfSome, IfNone, ◌==◌, Some, None, All, Any, Option, sym, refl, ap, ◌∙◌, subst, arith, false≢true, and_parts, nat_tests, has, BitSet, Command, State, key_of, good, data_of, UnitState, test_fits, matches, Test, view_in, Scope, Shows, Possibilities, one_registration, IsPlace, IsAt, purpose_of, is_refused, first_test, standing_of, Place, Branch, Reading, Transition, same_reservation, arm_of, IsRight, HasBoth, IsOwners, IsReadAt, MOST_ARMS}
 use Rattle.std.proofs.Common.{position}
-use Rattle.std.proofs.lemmas.List.Elements.{All-weaker}
+use Rattle.std.proofs.lemmas.List.Elements.{All-weaker, Contains-get_or}
 use Rattle.std.proofs.lemmas.List.Quantifiers.{position-Some}
 use Rattle.pr_cdb.specs.declared.command.Command.TheVariants as command
 use Rattle.pr_script.specs.declared.script.Test.TheVariants as test
@@ -15,7 +15,7 @@ use Rattle.pr_regions.specs.Readings.{AreReadings, IsProperReading}
 use Rattle.pr_regions.specs.Regions.{Ends, Meets, IsInRegion}
 use Rattle.pr_regions.proofs.lemmas.Parts.Endings.{same_ends}
 use Rattle.pr_regions.specs.Gathering.{IsProper}
-use Rattle.pr_domain.specs.inside.Tallies.{way_of, IsRightReading, AreRightReadings}
+use Rattle.pr_domain.specs.inside.Tallies.{way_of, IsRightReading}
 use Rattle.pr_domain.specs.inside.Reporting.{IsBlind, takes, AreBlind}
 use Rattle.pr_domain.proofs.lemmas.Reporting.MatchingTests.{first_of_class}
 use Rattle.pr_regions.proofs.lemmas.Portions.GatheredStates.{number_at}
@@ -44,18 +44,18 @@ reading_right s c tests view place r w b branch change way right only region end
 }
   where
     both : (u : UnitState) → IsAt (view_in s view) place w branch.region u → HasBoth s place r u
-    both u at = record { reserved = at.reservation; registered = sender_is s view place r w branch.region u right.is only at }
+    both u at = (at.reservation, sender_is s view place r w branch.region u right.is only at)
 
 pub read_at : (s : Scope) (view : Possibilities) (place : Place) (r : ℕ) (w : BitSet) (b : Reading) (u : UnitState) → IsPlace s view place → ((m : ℕ) → has w m ≡ (m == r))
     → IsAt (view_in s view) place w b.region u → IsReadAt s view place r b u
-read_at s view place r w b u is only at = (record { reserved = at.reservation; registered = sender_is s view place r w b.region u is only at }, at.inside)
+read_at s view place r w b u is only at = ((at.reservation, sender_is s view place r w b.region u is only at), at.inside)
 
 pub at_read : (s : Scope) (view : Possibilities) (place : Place) (r : ℕ) (w : BitSet) (b : Reading) (u : UnitState) → IsPlace s view place → ((m : ℕ) → has w m ≡ (m == r))
     → Shows (view_in s view) u → IsReadAt s view place r b u → IsAt (view_in s view) place w b.region u
 at_read s view place r w b u is only shown read = record {
   shown = shown;
-  reservation = read.0.reserved;
-  sender = λ t so. let same = one_registration s u place.sender t r is.fits.scope so read.0.registered in only t ∙ grind (arith, nat_tests);
+  reservation = read.0.0;
+  sender = λ t so. let same = one_registration s u place.sender t r is.fits.scope so read.0.1 in only t ∙ grind (arith, nat_tests);
   inside = read.1;
 }
 
@@ -75,8 +75,8 @@ ends_so s view place r c asks accepted own is change does u shown both =
       formed = shown.formed;
       hosts = shown.hosts;
       numbered = λ g below. let seen = shown.registrations g below in (seen.0, seen.1.1);
-      held = same_reservation s view place u is shown both.reserved;
-      standing = λ t so. ap (standing_of Look) (one_registration s u place.sender t r is.fits.scope so both.registered);
+      held = same_reservation s view place u is shown both.0;
+      standing = λ t so. ap (standing_of Look) (one_registration s u place.sender t r is.fits.scope so both.1);
       purpose = asks;
       accepted = accepted (key_of u.registry place.sender);
     }
@@ -90,26 +90,26 @@ look_ends s view place r _ reads own is change does u shown both = absurd (false
 
 pub right_readings : (s : Scope) (keys : List ℕ) (c : Command) (tests : List Test) (view : Possibilities) (place : Place) (r : ℕ) (readings : List Reading) → IsOwners s keys view place
     → (is_read_keys c || is_read_reservation c) ≡ true → length tests ≤ MOST_ARMS → ((hosts : ℕ) → AreReadings keys hosts tests c place.held place.sender r readings)
-    → ((b : Reading) → Contains readings b → IsProperReading b) → AreRightReadings s c tests view place r readings
-right_readings s keys c tests view place r readings owners reads few are proper b listed = record {
+    → All IsProperReading readings → All (IsRightReading s c tests view place r) readings
+right_readings s keys c tests view place r readings owners reads few are proper k d small = record {
   own = owners.own;
   is = owners.is;
   few = few;
   reads = reads;
-  proper = proper b listed;
+  proper = proper k d small;
   looks = look_ends s view place r c reads owners.own owners.is;
   taken = λ u shown at.
-      (are s.hosts).right s u b owners.same_keys refl owners.is.fits.scope shown.formed shown.hosts (λ g below. let seen = shown.registrations g below in (seen.0, seen.1.1))
-      (same_reservation s view place u owners.is shown at.0.reserved) at.0.registered listed at.1;
+      (are s.hosts).right s u _ owners.same_keys refl owners.is.fits.scope shown.formed shown.hosts (λ g below. let seen = shown.registrations g below in (seen.0, seen.1.1))
+      (same_reservation s view place u owners.is shown at.0.0) at.0.1 (Contains-get_or readings k d small) at.1;
 }
 
 pub readings_cover : (s : Scope) (keys : List ℕ) (c : Command) (tests : List Test) (view : Possibilities) (place : Place) (r : ℕ) (readings : List Reading) → IsOwners s keys view place
     → ((hosts : ℕ) → AreReadings keys hosts tests c place.held place.sender r readings)
-    → (u : UnitState) → Shows (view_in s view) u → HasBoth s place r u → IsReadFirst s view place r readings (length readings) u
+    → (u : UnitState) → Shows (view_in s view) u → HasBoth s place r u → Any (λ b. IsReadAt s view place r b u) readings
 readings_cover s keys c tests view place r readings owners are u shown both =
     let read = (are s.hosts).covered s u owners.same_keys refl owners.is.fits.scope shown.formed shown.hosts (λ g below. let seen = shown.registrations g below in (seen.0, seen.1.1))
-    (same_reservation s view place u owners.is shown both.reserved) both.registered in
-    (read.listed.0, read.listed.1, (read.reading, slice_get-get_or readings read.listed.0 read.reading read.listed.1 ∙ ap (λ b. Some b) read.listed.2, (both, read.inside)))
+    (same_reservation s view place u owners.is shown both.0) both.1 in
+    (read.listed.0, read.reading, read.listed.1, read.listed.2, (both, read.inside))
 
 -- ---- the other commands
 

@@ -1,11 +1,10 @@
 -- What is added for each way in which a command can end.
-use Rattle.pr_domain.proofs.Common.{◌≡◌, ℕ, zero, suc, ◌+◌, ◌-◌, ◌<◌, ◌≤◌, false, ◌||◌, ◌⊎◌, ◌↔◌, List, length, slice_get, Some, sym, refl, ap, ◌∙◌, subst, inl, inr, arith, lit<, has_wide, BitSet, Command, Reply, Sense, Plain, power_on, code_of, Attention, PowerOn, command_conflicts, command_fault, good, check, conflict, report, UnitState, is_pending, matches, Test, has_at, Item, Registration, Reservation, Attentions, View, Possibilities, IsClass, IsLanding, Good, Landing, Unserved, AreReported, AreMore, Ending, Reports, Conflicts, Fails, EndsGood, Refuses, refusal, Ends, landing_at, LandsBy, LandsGoodBelow, view_of_sending, IsOfWayAt, LandsOf, IsRegistered, has_part, Leaves, ATTENTION_SETS, MOST_ARMS, cases_eq, scope_of_sending, MayReport}
-use Rattle.std.proofs.Common.{⊎_elim}
+use Rattle.pr_domain.proofs.Common.{◌≡◌, ℕ, zero, suc, ◌+◌, ◌-◌, ◌<◌, ◌≤◌, false, ◌||◌, ◌⊎◌, ◌↔◌, List, length, slice_get, Some, sym, refl, ap, ◌∙◌, subst, inl, inr, arith, lit<, has_wide, BitSet, Command, Reply, Sense, Plain, power_on, code_of, Attention, PowerOn, command_conflicts, command_fault, good, check, conflict, report, UnitState, is_pending, matches, Test, has_at, Item, Registration, Reservation, Attentions, View, Possibilities, IsClass, IsLanding, Good, Landing, Unserved, AreReported, AreMore, Ending, Reports, Conflicts, Fails, EndsGood, Refuses, refusal, Ends, landing_at, LandsBy, LandsGood, view_of_sending, IsOfWayAt, LandsOf, IsRegistered, has_part, Leaves, ATTENTION_SETS, MOST_ARMS, scope_of_sending, MayReport}
 use Rattle.std.proofs.lemmas.List.Quantifiers.{position-Some}
 use Rattle.pr_script.specs.declared.script.Test.TheVariants as test
 use Rattle.pr_script.specs.declared.landing.Landing.TheVariants.{Arm, NoArm}
 use Rattle.pr_domain.specs.declared.reporting.Sending.{Sending}
-use Rattle.pr_domain.specs.inside.Reporting.{AreCalm, AreQuiet, LandsGood, IsLater}
+use Rattle.pr_domain.specs.inside.Reporting.{AreCalm, AreQuiet, IsLater}
 use Rattle.pr_domain.specs.inside.Sendings.{IsTallied}
 use Rattle.pr_domain.proofs.lemmas.Reporting.OutcomeLists.{more_by}
 use Rattle.pr_domain.proofs.lemmas.Tallies.Origins.{one_class, one_landing, IsWay, IsTold, way_lands}
@@ -93,20 +92,11 @@ part_joined p free either registrations reservations (Registration g r) = regist
 part_joined p free either registrations reservations (Reservation x) = reservations x
 part_joined p free either registrations reservations (Attentions q) = refl
 
-pub three_more : (n : ℕ) → suc (suc (suc n)) ≡ 3 + n
-three_more n = omega arith
-
 pub at_arm : (n : ℕ) → (n ≡ 0 → ⊥) → Arm (n - 1) ≡ landing_at n
 at_arm zero some = absurd (some refl)
 at_arm (suc n) some = ap Arm (omega arith)
 
 -- ---- GOOD with the data taken by each arm
-
-pub good_more : (v : View) (c : Command) (tests : List Test) (arm : ℕ) (l : Landing) (i : Item) → (LandsGoodBelow v c tests arm l i ⊎ LandsGood v c tests arm l i) ↔ LandsGoodBelow v c tests (arm + 1) l i
-good_more v c tests arm l i = (
-  ⊎_elim (λ (lands : LandsGoodBelow v c tests arm l i). (lands.0, (let small = lands.1 in omega arith), lands.2)) (λ lands. (arm, omega arith, lands)),
-  λ lands. ⊎_elim (λ same. inr (subst (λ n. LandsGood v c tests n l i) same lands.2)) (λ differs. inl (lands.0, (let small = lands.1 in omega arith), lands.2)) (cases_eq lands.0 arm),
-)
 
 arm_of_landing : (tests : List Test) (r : Reply) (l : Landing) → length tests ≤ MOST_ARMS → IsClass r Good → IsLanding tests r l → (arm : ℕ) × (arm < MOST_ARMS + 1) × (l ≡ landing_at arm)
 arm_of_landing tests r (Arm n) few good is =
@@ -114,7 +104,7 @@ arm_of_landing tests r (Arm n) few good is =
     (suc n, omega arith, refl)
 arm_of_landing tests r (NoArm class) few good is = (0, lit< tt, ap NoArm (one_class r class Good is.1 good))
 
-pub good_all : (v : View) (c : Command) (tests : List Test) (bound : ℕ) → length tests ≤ MOST_ARMS → MOST_ARMS < bound → (l : Landing) (i : Item) → LandsGoodBelow v c tests bound l i ↔ LandsBy v c tests EndsGood l i
+pub good_all : (v : View) (c : Command) (tests : List Test) (bound : ℕ) → length tests ≤ MOST_ARMS → MOST_ARMS < bound → (l : Landing) (i : Item) → ((arm : ℕ) × (arm < bound) × LandsGood v c tests arm l i) ↔ LandsBy v c tests EndsGood l i
 good_all v c tests bound few all l i = (
   λ lands. lands.2.1,
   λ by.

@@ -1,6 +1,7 @@
 -- What a sender with one of some registrations asks for, and how that ends.
-use Rattle.pr_domain.proofs.Common.{◌≡◌, ℕ, zero, suc, ◌<◌, Bool, true, false, List, length, if◌then◌else◌, nat_lt, ◌==◌, Some, None, Contains, Option, option_map, sym, refl, ap, ◌∙◌, subst, arith, false≢true, or_left, nat_tests, slice_get-get_or, has, BitSet, Command, State, key_of, Held, One, command_conflicts, UnitState, Test, view_in, Scope, Registration, IsSo, Shows, Possibilities, one_registration, IsPlace, IsUniform, IsAt, is_refused, standing_of, AreBranches, Place, Branch, Region, same_reservation, IsRight, IsInOne, MOST_REGISTRATIONS}
+use Rattle.pr_domain.proofs.Common.{◌≡◌, ℕ, zero, suc, ◌<◌, Bool, true, false, List, if◌then◌else◌, get_or, nat_lt, ◌==◌, Some, None, All, Any, Option, option_map, sym, refl, ap, ◌∙◌, subst, arith, false≢true, or_left, nat_tests, has, BitSet, Command, State, key_of, Held, One, command_conflicts, UnitState, Test, view_in, Scope, Registration, IsSo, Shows, Possibilities, one_registration, IsPlace, IsUniform, IsAt, is_refused, standing_of, AreBranches, Place, Branch, Region, same_reservation, IsRight, MOST_REGISTRATIONS}
 use Rattle.std.proofs.lemmas.Bool.{lt-ltb}
+use Rattle.std.proofs.lemmas.List.Elements.{Contains-get_or}
 use Rattle.pr_registry.specs.declared.held.Held.TheVariants.{All as Everybody}
 use Rattle.pr_unit.specs.Demands.{demand_of}
 use Rattle.pr_unit.specs.Conduct.{conduct}
@@ -9,7 +10,7 @@ use Rattle.pr_regions.specs.Purposes.{Purpose}
 use Rattle.pr_regions.specs.declared.purpose.Standing.{Standing}
 use Rattle.pr_regions.specs.declared.region.Ending.TheVariants as ending
 use Rattle.pr_regions.specs.Regions.{Meets, names, filter_of, Ends, IsUntestedOrRegistered, IsProper as IsProperBranch}
-use Rattle.pr_domain.specs.inside.Tallies.{AreRight, HasOneOf, IsAsked, IsRefusedAt}
+use Rattle.pr_domain.specs.inside.Tallies.{HasOneOf, IsAsked, IsRefusedAt}
 use Rattle.pr_roles.specs.Keys.{key_at}
 use Rattle.pr_domain.specs.inside.TestedCommands.{AreAlike}
 use Rattle.pr_domain.specs.declared.tested.TestedCommand.{TestedCommand}
@@ -62,10 +63,10 @@ pub sender_among : (s : Scope) (view : Possibilities) (place : Place) (w : BitSe
 sender_among s view place w region u is at =
     let below : place.sender < s.hosts = subst (λ n. place.sender < n) (sym is.hosts) place.there in
     let seen = at.shown.registrations place.sender below in
-    record { registration = seen.0; among = at.sender seen.0 seen.1.1; reserved = at.reservation; registered = seen.1.1 }
+    (seen.0, at.sender seen.0 seen.1.1, (at.reservation, seen.1.1))
 
 among_senders : (s : Scope) (view : Possibilities) (place : Place) (w : BitSet) (u : UnitState) → IsPlace s view place → HasOneOf s place w u → (t : ℕ) → IsSo s u (Registration place.sender t) → has w t ≡ true
-among_senders s view place w u is one t so = subst (λ n. has w n ≡ true) (one_registration s u place.sender one.registration t is.fits.scope one.registered so) one.among
+among_senders s view place w u is one t so = subst (λ n. has w n ≡ true) (one_registration s u place.sender one.0 t is.fits.scope one.2.1 so) one.1
 
 -- the command as the branches see it
 meets : (s : Scope) (c : Command) (tests : List Test) (view : Possibilities) (place : Place) (purpose : Purpose) (arm : ℕ) (w : BitSet) (standing : Standing) (u : UnitState) → IsAsked s c tests view place purpose arm w standing
@@ -76,46 +77,45 @@ meets s c tests view place purpose arm w standing u asked shown one = record {
   formed = shown.formed;
   hosts = shown.hosts;
   numbered = λ g below. let seen = shown.registrations g below in (seen.0, seen.1.1);
-  held = same_reservation s view place u asked.is shown one.reserved;
+  held = same_reservation s view place u asked.is shown one.2.0;
   standing = λ t so. asked.stands t (among_senders s view place w u asked.is one t so);
   purpose = asked.asks;
-  accepted = subst (λ k. is_refused k c ≡ false) (sym one.registered.2) (asked.accepted one.registration one.among);
+  accepted = subst (λ k. is_refused k c ≡ false) (sym one.2.1.2) (asked.accepted one.0 one.1);
 }
 
 pub asked_right : (s : Scope) (c : Command) (tests : List Test) (view : Possibilities) (place : Place) (purpose : Purpose) (arm : ℕ) (w : BitSet) (standing : Standing) (branches : List Branch)
     → IsAsked s c tests view place purpose arm w standing → AreBranches place.hosts purpose place.held place.sender standing branches
-    → ((b : Branch) → Contains branches b → IsProperBranch b) → AreRight s c tests view place w branches arm
-asked_right s c tests view place purpose arm w standing branches asked are proper b listed = record {
+    → All IsProperBranch branches → All (λ b. IsRight s c tests view place w b arm) branches
+asked_right s c tests view place purpose arm w standing branches asked are proper k d small = record {
   own = asked.own;
   is = asked.is;
   uniform = asked.uniform;
-  proper = proper b listed;
+  proper = proper k d small;
   ends = λ u at.
-      let one = sender_among s view place w b.region u asked.is at in
+      let one = sender_among s view place w (get_or branches k d).region u asked.is at in
       let decided = are s u c asked.is.hosts (meets s c tests view place purpose arm w standing u asked at.shown one) in
-      subst (λ n. Ends s n b.ending u c) asked.own (decided.right b listed at.inside);
+      subst (λ n. Ends s n (get_or branches k d).ending u c) asked.own (decided.right (get_or branches k d) (Contains-get_or branches k d small) at.inside);
   taken = λ u at free. asked.taken u.registry;
 }
 
 -- each state with one of these registrations is in the region of one of the branches, and the other way round
 pub asked_covers : (s : Scope) (c : Command) (tests : List Test) (view : Possibilities) (place : Place) (purpose : Purpose) (arm : ℕ) (w : BitSet) (standing : Standing) (branches : List Branch)
     → IsAsked s c tests view place purpose arm w standing → AreBranches place.hosts purpose place.held place.sender standing branches
-    → (u : UnitState) → Shows (view_in s view) u → HasOneOf s place w u → IsInOne (view_in s view) place w branches (length branches) u
+    → (u : UnitState) → Shows (view_in s view) u → HasOneOf s place w u → Any (λ b. IsAt (view_in s view) place w b.region u) branches
 asked_covers s c tests view place purpose arm w standing branches asked are u shown one =
     let decided = are s u c asked.is.hosts (meets s c tests view place purpose arm w standing u asked shown one) in
     let covered = decided.covered in
     let at : IsAt (view_in s view) place w covered.branch.region u = record {
       shown = shown;
-      reservation = one.reserved;
+      reservation = one.2.0;
       sender = λ t so. among_senders s view place w u asked.is one t so;
       inside = covered.inside;
     } in
-    (covered.listed.0, covered.listed.1, (covered.branch, slice_get-get_or branches covered.listed.0 covered.branch covered.listed.1 ∙ ap (λ b. Some b) covered.listed.2, at))
+    (covered.listed.0, covered.branch, covered.listed.1, covered.listed.2, at)
 
 pub asked_back : (s : Scope) (c : Command) (tests : List Test) (view : Possibilities) (place : Place) (purpose : Purpose) (arm : ℕ) (w : BitSet) (standing : Standing) (branches : List Branch)
-    → IsAsked s c tests view place purpose arm w standing → (n : ℕ)
-    → (u : UnitState) → Shows (view_in s view) u → IsInOne (view_in s view) place w branches n u → HasOneOf s place w u
-asked_back s c tests view place purpose arm w standing branches asked n u shown one = sender_among s view place w one.2.0.region u asked.is one.2.2
+    → IsAsked s c tests view place purpose arm w standing → (u : UnitState) → Any (λ b. IsAt (view_in s view) place w b.region u) branches → HasOneOf s place w u
+asked_back s c tests view place purpose arm w standing branches asked u any = sender_among s view place w any.1.region u asked.is any.4
 
 -- ---- a key that is not accepted
 
@@ -129,7 +129,7 @@ pub anywhere : (s : Scope) (view : Possibilities) (place : Place) (w any : BitSe
     → Shows (view_in s view) u → HasOneOf s place w u → IsAt (view_in s view) place w region u
 anywhere s view place w any region u is below holder others none shown one = record {
   shown = shown;
-  reservation = one.reserved;
+  reservation = one.2.0;
   sender = λ t so. among_senders s view place w u is one t so;
   inside = record {
     registrations = λ g n other so. passes n (let few = few_keys s.keys is.fits.scope.keys in let small = so.1 in omega arith) u.registry.held g;
@@ -161,4 +161,4 @@ refused_right s c tests view place w b arm refused conflict untested = record {
     conflicts u at =
         let one = sender_among s view place w b.region u refused.is at in
         subst (λ n. command_conflicts u.registry n c ≡ true) refused.own
-        (refused_conflicts u.registry place.sender c (subst (λ k. is_refused k c ≡ true) (sym one.registered.2) (refused.refused one.registration one.among)))
+        (refused_conflicts u.registry place.sender c (subst (λ k. is_refused k c ≡ true) (sym one.2.1.2) (refused.refused one.0 one.1)))

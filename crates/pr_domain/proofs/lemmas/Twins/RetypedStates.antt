@@ -1,5 +1,5 @@
 -- A state under a reservation of another type that has the same holders: a command that reads ends alike there.
-use Rattle.pr_domain.proofs.Common.{◌≡◌, ℕ, zero, suc, ◌+◌, ◌<◌, true, false, not, ◌&&◌, ◌||◌, ◌⊎◌, List, is_some, nat_lt, ◌==◌, Some, None, Option, option_map, sym, refl, ap, ◌∙◌, subst, inl, inr, arith, false≢true, not-true, and_parts, cases_order, cases_eq, or_cases, and_from, or_left, or_right, nat_tests, has_wide, has, Command, Held, One, command_conflicts, command_fault, good, data_of, UnitState, effect, is_written, test_fits, Test, is_reservation, view_in, Scope, number_of, Item, Registration, Reservation, Attentions, IsSo, Shows, Possibilities, IsPlace, first_test, Place, same_reservation, Tally, IsRegistered, has_tallied, Leaves, IsFound, Grows, IsReserved, IsOwners, eq-eqb}
+use Rattle.pr_domain.proofs.Common.{◌≡◌, ℕ, zero, suc, ◌+◌, ◌<◌, true, false, not, ◌&&◌, ◌||◌, ◌≢◌, ◌⊎◌, List, is_some, nat_lt, ◌==◌, Some, None, Option, option_map, sym, refl, ap, ◌∙◌, subst, inl, inr, arith, false≢true, not-true, and_parts, cases_eq, or_cases, and_from, or_left, or_right, nat_tests, has_wide, has, Command, Held, One, command_conflicts, command_fault, good, data_of, UnitState, effect, is_written, test_fits, Test, is_reservation, view_in, Scope, number_of, Item, Registration, Reservation, Attentions, IsSo, Shows, Possibilities, IsPlace, first_test, Place, same_reservation, Tally, IsRegistered, has_tallied, Leaves, IsFound, Grows, IsReserved, IsOwners, eq-eqb}
 use Rattle.std.proofs.Common.{unwrap_or}
 use Rattle.std.specs.FinMap as map
 use Rattle.std.specs.List.{All as Each}
@@ -111,7 +111,7 @@ module _ (s : Scope) (view : Possibilities) (c : Command) (tests : List Test) (r
       → Grows (view_in s view) c tests none old (IsReserved s place.reservation) → Grows (view_in s view) c tests none new (IsReserved s (place.reservation + 1))
   twin_grows keys place x none old new owners twin nothing joined grows = record {
     kept = λ way i has. absurd (false≢true (sym (nothing way i) ∙ has));
-    all = λ u way i shown among leaves. all u way i shown leaves among (cases_eq among.0 place.reservation);
+    all = λ u way i shown among leaves. all u way i shown leaves among (cases_eq (number_of s.hosts u.registry.held) place.reservation);
     only = λ way i q has pending. only way i q pending (sym (joined way i) ∙ has);
   }
     where
@@ -140,6 +140,9 @@ module _ (s : Scope) (view : Possibilities) (c : Command) (tests : List Test) (r
         possible = twin.possible;
       }
 
+      before : number_of s.hosts twin.twin < n
+      before = subst (λ y. y < n) (number_at s view other is_other) twin.below
+
       -- a state under the one reservation, and the same under the other
       under_twin : (u : UnitState) → Shows (view_in s view) u → IsSo s u (Reservation n) → AreTwins u.registry.held twin.twin
       under_twin u shown so = subst (λ v. AreTwins v twin.twin) (sym (same_reservation s view place u owners.is shown so)) (turned twin.twin place.held twin.same)
@@ -158,21 +161,20 @@ module _ (s : Scope) (view : Possibilities) (c : Command) (tests : List Test) (r
       here : (u : UnitState) (way : ℕ) (i : Item) → Shows (view_in s view) u → IsSo s u (Reservation n) → Leaves s c tests way u i → has_tallied new way i ≡ true
       here u way (Registration g r) shown so leaves =
           let also = shown_twin u shown so in
-          kept way (Registration g r) (grows.all (retyped u twin.twin) way (Registration g r) also (x, twin.below, number_at s view other is_other)
+          kept way (Registration g r) (grows.all (retyped u twin.twin) way (Registration g r) also before
           (leaves_alike u twin.twin way (Registration g r) (Registration g r) shown also (under_twin u shown so) leaves (left_there s c tests reads u way (Registration g r) leaves)))
       here u way (Reservation y) shown so leaves =
           let also = shown_twin u shown so in
-          let had = grows.all (retyped u twin.twin) way (Reservation x) also (x, twin.below, number_at s view other is_other)
+          let had = grows.all (retyped u twin.twin) way (Reservation x) also before
           (leaves_alike u twin.twin way (Reservation y) (Reservation x) shown also (under_twin u shown so) leaves (number_at s view other is_other)) in
           let same : y ≡ n = left_there s c tests reads u way (Reservation y) leaves ∙ sym so in
           joined way (Reservation y)
           ∙ or_right (has_tallied old way (Reservation y)) (y == n && has_tallied old way (Reservation x)) (and_from (y == n) (has_tallied old way (Reservation x)) (subst (λ z. (y == z) ≡ true) same (eq-eqb y y refl)) had)
       here u way (Attentions q) shown so leaves = absurd (left_there s c tests reads u way (Attentions q) leaves)
 
-      all : (u : UnitState) (way : ℕ) (i : Item) → Shows (view_in s view) u → Leaves s c tests way u i → (among : IsReserved s (n + 1) u) → (among.0 ≡ n) ⊎ (among.0 ≡ n → ⊥) → has_tallied new way i ≡ true
-      all u way i shown leaves among (inl same) = here u way i shown (subst (λ y. IsSo s u (Reservation y)) same among.2) leaves
-      all u way i shown leaves among (inr differs) =
-          kept way i (grows.all u way i shown (among.0, (let e = among.1 in let o : among.0 < n = omega (arith, cases_order among.0 n) in o), among.2) leaves)
+      all : (u : UnitState) (way : ℕ) (i : Item) → Shows (view_in s view) u → Leaves s c tests way u i → IsReserved s (n + 1) u → (number_of s.hosts u.registry.held ≡ n) ⊎ (number_of s.hosts u.registry.held ≢ n) → has_tallied new way i ≡ true
+      all u way i shown leaves among (inl same) = here u way i shown (sym same) leaves
+      all u way i shown leaves among (inr differs) = kept way i (grows.all u way i shown (omega arith) leaves)
 
       Found : ℕ → Item → ℕ → Type 0
       Found way i q = (has_tallied none way i ≡ true) ⊎ IsFound (view_in s view) c tests (IsReserved s (n + 1)) way i q
@@ -182,7 +184,7 @@ module _ (s : Scope) (view : Possibilities) (c : Command) (tests : List Test) (r
       wider way i q (inr found) = inr (record {
         unit = found.unit;
         shown = found.shown;
-        among = (found.among.0, (let e = found.among.1 in omega arith), found.among.2);
+        among = (let below = found.among in omega arith);
         leaves = found.leaves;
         pending = found.pending;
       })
@@ -196,7 +198,7 @@ module _ (s : Scope) (view : Possibilities) (c : Command) (tests : List Test) (r
           inr (record {
             unit = retyped u place.held;
             shown = also;
-            among = (n, omega arith, number_at s view place owners.is);
+            among = subst (λ y. y < n + 1) (number_at s view place owners.is) (omega arith);
             leaves = leaves_alike u place.held way (Reservation x) (Reservation n) found.shown also (under_place u found.shown so) found.leaves (number_at s view place owners.is);
             pending = found.pending;
           })

@@ -1,16 +1,8 @@
-use Rattle.pr_domain.proofs.Common.{ℕ, length, All, Contains, sym, ap, ◌∙◌, subst, view_in, key_at, purpose_of, is_refused, Reading, HasBoth, HasOneOf, IsReadFirst}
-use Rattle.std.proofs.lemmas.List.Elements.{All-contains}
-use Rattle.pr_regions.specs.Readings.{AreReadings, IsProperReading}
+use Rattle.pr_domain.proofs.Common.{Any, sym, ap, ◌∙◌, view_in, key_at, purpose_of, is_refused, HasBoth, HasOneOf, IsReadAt}
 use Rattle.pr_domain.proofs.lemmas.Tallies.DataArms.{right_readings, readings_cover, arm_taken}
 use Rattle.pr_domain.proofs.lemmas.Tallies.Growth.{grows_as}
 use Rattle.pr_domain.proofs.lemmas.Tallies.ShownStates.{this_alone}
 use Rattle.pr_domain.proofs.tallying.add_alike.Goals as goal
-
-are : (c : goal.After-add_readings) (hosts : ℕ) → AreReadings c.args.asked.now.keys.now hosts c.args.asked.now.tests.now c.args.asked.now.command c.args.place.held c.args.place.sender c.args.registration c.deref.result.now
-are c hosts = subst (λ l. AreReadings c.args.asked.now.keys.now hosts c.args.asked.now.tests.now c.args.asked.now.command c.args.place.held c.args.place.sender c.args.registration l) (sym c.deref.ensures.0) (c.readings-readings.ensures.right hosts)
-
-proper : (c : goal.After-add_readings) (b : Reading) → Contains c.deref.result.now b → IsProperReading b
-proper c b there = All-contains IsProperReading c.deref.result.now b (subst (λ l. All IsProperReading l) (sym c.deref.ensures.0) c.readings-readings.ensures.proper) there
 
 pub returns-then-is_refused : goal.returns-then-is_refused
 returns-then-is_refused c s owners = c.add_refused.ensures s c.args.asked.now.command c.args.asked.now.tests.now (record {
@@ -23,16 +15,19 @@ returns-then-is_refused c s owners = c.add_refused.ensures s c.args.asked.now.co
 
 pub returns-then-is_reading : goal.returns-then-is_reading
 returns-then-is_reading c s owners =
-    grows_as (view_in s c.args.view.now) c.args.asked.now.command c.args.asked.now.tests.now c.args.tally.now c.add_readings.new.tally
-    (HasBoth s c.args.place c.args.registration) (HasOneOf s c.args.place c.args.alike)
-    (λ u shown both. record { registration = c.args.registration; among = c.requires.alike.itself; reserved = both.reserved; registered = both.registered })
-    (λ u shown one. this_alone s c.args.place c.args.registration c.args.alike (c.requires.alike.read (sym c.is_reading.ensures ∙ c.if-is_reading.true)) u one)
-    (grows_as (view_in s c.args.view.now) c.args.asked.now.command c.args.asked.now.tests.now c.args.tally.now c.add_readings.new.tally
-    (IsReadFirst s c.args.view.now c.args.place c.args.registration c.deref.result.now (length c.deref.result.now)) (HasBoth s c.args.place c.args.registration)
-    (λ u shown first. first.2.2.0)
-    (λ u shown both. readings_cover s c.args.asked.now.keys.now c.args.asked.now.command c.args.asked.now.tests.now c.args.view.now c.args.place c.args.registration c.deref.result.now owners (are c) u shown both)
-    (c.add_readings.ensures s c.args.asked.now.command c.args.asked.now.tests.now (right_readings s c.args.asked.now.keys.now c.args.asked.now.command c.args.asked.now.tests.now c.args.view.now c.args.place c.args.registration c.deref.result.now owners
-    (sym c.is_reading.ensures ∙ c.if-is_reading.true) c.args.asked.now.few (are c) (proper c))))
+    let asked = c.args.asked.now in
+    let readings = c.readings-readings.result.items in
+    let are = c.readings-readings.ensures.right in
+    let reads = sym c.is_reading.ensures ∙ c.if-is_reading.true in
+    grows_as (view_in s c.args.view.now) asked.command asked.tests.now c.args.tally.now c.add_readings.new.tally (HasBoth s c.args.place c.args.registration) (HasOneOf s c.args.place c.args.alike)
+    (λ u shown both. (c.args.registration, c.requires.alike.itself, both))
+    (λ u shown one. this_alone s c.args.place c.args.registration c.args.alike (c.requires.alike.read reads) u one)
+    (grows_as (view_in s c.args.view.now) asked.command asked.tests.now c.args.tally.now c.add_readings.new.tally
+    (λ u. Any (λ b. IsReadAt s c.args.view.now c.args.place c.args.registration b u) readings) (HasBoth s c.args.place c.args.registration)
+    (λ u shown any. any.4.0)
+    (λ u shown both. readings_cover s asked.keys.now asked.command asked.tests.now c.args.view.now c.args.place c.args.registration readings owners are u shown both)
+    ((rw c.deref.ensures.0 at c.add_readings.ensures) s asked.command asked.tests.now
+    (right_readings s asked.keys.now asked.command asked.tests.now c.args.view.now c.args.place c.args.registration readings owners reads asked.few are c.readings-readings.ensures.proper)))
 
 pub returns-else-is_reading : goal.returns-else-is_reading
 returns-else-is_reading c s owners = c.add_accepted.ensures s c.args.asked.now.command c.args.asked.now.tests.now (record {

@@ -1,7 +1,7 @@
-use Rattle.pr_domain.proofs.Common.{List, Command, Test, view_in, Scope, Grows, IsInOne}
-use Rattle.pr_domain.specs.inside.Tallies.{AreRight}
+use Rattle.pr_domain.proofs.Common.{List, All, Command, Test, view_in, Scope, IsAt, Grows, IsRight}
+use Rattle.pr_domain.proofs.lemmas.Tallies.Growth.{AnyBelow}
 use Rattle.pr_domain.proofs.tallying.add_branches.Given as goal
 
 abbrev pub invariant-loop-branch : goal.invariant-loop-branch
-invariant-loop-branch l = (s : Scope) (c : Command) (tests : List Test) → AreRight s c tests l.view l.place l.senders l.branches l.arm.number
-    → Grows (view_in s l.view) c tests l.fn.tally l.tally (IsInOne (view_in s l.view) l.place l.senders l.branches l.branch-index)
+invariant-loop-branch l = (s : Scope) (c : Command) (tests : List Test) → All (λ b. IsRight s c tests l.view l.place l.senders b l.arm.number) l.branches
+    → Grows (view_in s l.view) c tests l.fn.tally l.tally (λ u. AnyBelow l.branch-index (λ b. IsAt (view_in s l.view) l.place l.senders b.region u) l.branches)

@@ -1,7 +1,8 @@
-use Rattle.pr_domain.proofs.Common.{List, Command, Test, view_in, Scope, Grows, IsReadFirst}
-use Rattle.pr_domain.specs.inside.Tallies.{AreRightReadings}
+use Rattle.pr_domain.proofs.Common.{List, All, Command, Test, view_in, Scope, Grows, IsReadAt}
+use Rattle.pr_domain.specs.inside.Tallies.{IsRightReading}
+use Rattle.pr_domain.proofs.lemmas.Tallies.Growth.{AnyBelow}
 use Rattle.pr_domain.proofs.tallying.add_readings.Given as goal
 
 abbrev pub invariant-loop-reading : goal.invariant-loop-reading
-invariant-loop-reading l = (s : Scope) (c : Command) (tests : List Test) → AreRightReadings s c tests l.view l.place l.registration l.readings
-    → Grows (view_in s l.view) c tests l.fn.tally l.tally (IsReadFirst s l.view l.place l.registration l.readings l.reading-index)
+invariant-loop-reading l = (s : Scope) (c : Command) (tests : List Test) → All (IsRightReading s c tests l.view l.place l.registration) l.readings
+    → Grows (view_in s l.view) c tests l.fn.tally l.tally (λ u. AnyBelow l.reading-index (λ b. IsReadAt s l.view l.place l.registration b u) l.readings)

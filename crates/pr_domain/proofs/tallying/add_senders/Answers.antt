@@ -1,7 +1,7 @@
 use Rattle.pr_domain.proofs.Common.{◌≡◌, ℕ, ◌+◌, ◌<◌, Bool, true, false, not, ◌&&◌, length, sym, refl, ap, ◌∙◌, subst, inl, inr, arith, false≢true, and_parts, or_cases, has, view_in, Grows, HasOneOf}
 use Rattle.std.proofs.Common.{below_more}
 use Rattle.std.proofs.lemmas.Bool.{or_left, or_right}
-use Rattle.pr_domain.proofs.lemmas.Tallies.ShownStates.{senders_more, senders_same, senders_none}
+use Rattle.pr_domain.proofs.lemmas.Tallies.ShownStates.{senders_joined, senders_same, senders_none}
 use Rattle.pr_domain.proofs.tallying.add_senders.Goals as goal
 use Rattle.pr_domain.proofs.tallying.add_senders.Goals.{then-has, else-has}
 
@@ -31,7 +31,7 @@ loop-registration-preserved c =
       | then-has w ↦ record {
         grows = λ s owners.
             let view = view_in s c.args.view.now in
-            let more = senders_more view s command tests c.args.place done w.alike_to-alike.result w.or-done.result old c.loop-registration.tally w.add_alike.new.tally w.or-done.ensures (known.grows s owners) (w.add_alike.ensures s owners) in
+            let more = senders_joined view s command tests c.args.place done w.alike_to-alike.result w.or-done.result old c.loop-registration.tally w.add_alike.new.tally w.or-done.ensures (known.grows s owners) (w.add_alike.ensures s owners) in
             subst (λ d. Grows view command tests old c.if-has.tally (HasOneOf s c.args.place d)) (sym w.done-is) (subst (λ t. Grows view command tests old t (HasOneOf s c.args.place w.or-done.result)) (sym w.tally-is) more);
         done = subst (λ d. (r : ℕ) → r < n + 1 → has senders r ≡ true → has d r ≡ true) (sym w.done-is)
             (below_more (λ r. has senders r ≡ true → has w.or-done.result r ≡ true) n
