@@ -49,7 +49,7 @@ pub use Rattle.pr_regions.proofs.lemmas.Showing.AlikeViews.{IsSame, shows_within
 pub use Rattle.pr_interference.specs.Interference.{IsDone, IsLeft, IsInterference}
 pub use Rattle.pr_interference.specs.declared.onlooker.Onlooker.{Onlooker}
 pub use Rattle.pr_interference.specs.declared.reach.Reach.{Reach}
-pub use Rattle.pr_interference.specs.inside.Clauses.{purpose_of_preempt, purpose_for, IsClause, StandingLeads, PlaceLeads}
+pub use Rattle.pr_interference.specs.inside.Clauses.{purpose_of_preempt, purpose_for, StandingLeads, PlaceLeads}
 pub use Rattle.pr_interference.specs.inside.Closing.{IsRound, IsWidened, scope_for, view_for}
 pub use Rattle.pr_interference.specs.inside.Interfering.{IsWatched, IsOnlooking, IsLedBy, IsLeftBy, ClauseLeads, ClauseLeaves}
 pub use Rattle.pr_interference.specs.inside.Marks.{first}

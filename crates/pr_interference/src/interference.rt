@@ -12,7 +12,7 @@ ghost use Rattle.pr_regions.specs.inside.Adding.{Adds};
 ghost use Rattle.pr_interference.specs.Interference.{IsInterference};
 ghost use Rattle.pr_interference.specs.inside.Reaching.{AreHolders, HasShown, MayHave};
 ghost use Rattle.pr_interference.specs.inside.Closing.{Interferes, Widens};
-ghost use Rattle.pr_interference.specs.inside.Clauses.{purpose_for, IsClause, StandingLeads, AddsRole, AddsClause, AddsPlace};
+ghost use Rattle.pr_interference.specs.inside.Clauses.{purpose_for, StandingLeads, AddsRole, AddsClause, AddsPlace};
 
 use crate::clauses::{may_send, senders};
 use crate::holders::Holders;
@@ -59,7 +59,7 @@ impl Onlooker<'_> {
         requires held { AreHolders self.now.hosts self.now.view.reservations holders.now }
         requires shown { (s : Scope) → IsOnlooking s self.now
             → HasShown s self.now.view answer.old }
-        requires action { IsClause self.now.keys.now clause.now }
+        requires action { is_action self.now.keys.now clause.now.action ≡ true }
         ensures { AddsClause self.now clause.now answer.old answer.new }
     {
         let reach = self.reach(holders, clause);

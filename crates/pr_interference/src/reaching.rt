@@ -8,13 +8,13 @@ ghost use Rattle.pr_registry.specs.declared.held.Held.TheVariants.{One, All};
 ghost use Rattle.pr_registry.specs.Registrations.{holds_alone};
 ghost use Rattle.pr_registry.specs.Changes.{is_kind, is_held_by_all, is_told_of_loss};
 ghost use Rattle.pr_roles.specs.declared.limits.TheConstants.{MOST_KEYS};
+ghost use Rattle.pr_roles.specs.Fitting.{is_action};
 ghost use Rattle.pr_roles.specs.declared.role.Clause.{Clause as ClauseOf};
 ghost use Rattle.pr_sets.specs.BitSets.{has};
 ghost use Rattle.pr_sets.specs.Wides.{has_wide};
 ghost use Rattle.pr_views.specs.declared.view.TheConstants.{ATTENTION_SETS};
 ghost use Rattle.pr_views.specs.Possibilities.{Scope};
 ghost use Rattle.pr_views.specs.Portions.{has_at};
-ghost use Rattle.pr_interference.specs.inside.Clauses.{IsClause};
 ghost use Rattle.pr_interference.specs.inside.Interfering.{IsOnlooking};
 ghost use Rattle.pr_interference.specs.inside.Reaching.{AreHolders, IsHeldAmong, IsReach, IsMost, IsTold, MayAllGo, HasEveryKey, HasEveryKeyBut, HasNew, MayHave, Reaches};
 
@@ -106,7 +106,7 @@ impl Onlooker<'_> {
     /// What a command of this clause reaches under the reservations that are possible.
     pub(crate) fn reach(&self, holders: &Holders, clause: &Clause) -> Reach
         requires held { AreHolders self.now.hosts self.now.view.reservations holders.now }
-        requires action { IsClause self.now.keys.now clause.now }
+        requires action { is_action self.now.keys.now clause.now.action ≡ true }
         ensures { Reaches self.now clause.now result }
     {
         let met = holders.meeting(clause.condition, self.other);

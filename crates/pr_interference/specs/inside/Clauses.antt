@@ -11,7 +11,6 @@ use Rattle.pr_roles.specs.declared.role.Action.{Action}
 use Rattle.pr_roles.specs.declared.role.Action.TheVariants as action
 use Rattle.pr_roles.specs.declared.role.Condition.{Condition}
 use Rattle.pr_roles.specs.declared.role.Clause.{Clause}
-use Rattle.pr_roles.specs.Fitting.{is_action}
 use Rattle.pr_sets.specs.declared.bit_set.BitSet.{BitSet}
 use Rattle.pr_sets.specs.BitSets.{has}
 use Rattle.pr_views.specs.Possibilities.{Scope, Registration, Reservation, IsSo}
@@ -44,10 +43,6 @@ purpose_for keys action.Clear held = Some Clear
 purpose_for keys (action.Preempt key kind) held = Some (purpose_of_preempt keys key kind)
 purpose_for keys action.Read held = None
 purpose_for keys action.Write held = None
-
--- the keys that the clause names are declared
-abbrev pub IsClause : List ℕ → Clause → Type 0
-IsClause keys clause = is_action keys clause.action ≡ true
 
 -- a sender that is not registered is refused
 abbrev pub refuses_strangers : Purpose → Bool

@@ -1,8 +1,7 @@
 -- What is added to possibilities, step by step.
-use Rattle.pr_interference.proofs.Common.{◌≡◌, ℕ, ◌+◌, ◌<◌, ◌≢◌, ◌⊎◌, List, length, slice_index_or, sym, ap, ◌∙◌, subst, inl, inr, arith, get_or_default, BitSet, UnitState, view_in, Scope, Item, IsPossible, Possibilities, IsAt, Changes, Place, Branch, Transition, Adds, adds_both, IsJoined, Any, IsLedBy, IsLeftBy}
-use Rattle.std.proofs.Common.{take}
+use Rattle.pr_interference.proofs.Common.{◌≡◌, ℕ, ◌+◌, ◌<◌, ◌≢◌, ◌⊎◌, List, length, slice_index_or, sym, ◌∙◌, subst, inl, inr, arith, get_or_default, BitSet, UnitState, view_in, Scope, Item, IsPossible, Possibilities, IsAt, Changes, Place, Branch, Transition, Adds, adds_both, IsJoined, Any, IsLedBy, IsLeftBy}
+use Rattle.std.proofs.Common.{⊎_elim}
 use Rattle.std.proofs.lemmas.Bool.{cases_eq}
-use Rattle.std.proofs.lemmas.List.{length-take-le, get_or-take}
 use Rattle.pr_regions.specs.declared.region.Region.{Region}
 use Rattle.pr_regions.specs.declared.region.Ending.TheVariants as ending
 use Rattle.pr_interference.specs.inside.Interfering.{IsAfter, IsChanged}
@@ -44,30 +43,22 @@ below_or_last P n found = at (cases_eq found.0 n)
     at (inl same) = inr (subst P same found.2)
     at (inr differs) = inl (found.0, (let below = found.1 in omega arith), found.2)
 
+-- one of the first elements is so: at the length of the list that is Any
+abbrev pub AnyBelow : {X : Type 0} → ℕ → (X → Type 0) → List X → Type 0
+AnyBelow {X} n P xs = (k : ℕ) × (x : X) × (k < n) × (slice_index_or xs k x ≡ x) × P x
+
 -- one element more
 pub adds_element : {X : Type 0} (s : Scope) (p q r : Possibilities) (n : ℕ) (xs : List X) (x : X) (leads : X → UnitState → UnitState → Type 0) (leaves : X → Item → Type 0)
     → n < length xs → slice_index_or xs n x ≡ x
-    → Adds s p q (λ u w. Any (λ y. leads y u w) (take n xs)) (λ i. Any (λ y. leaves y i) xs) → Adds s q r (leads x) (leaves x)
-    → Adds s p r (λ u w. Any (λ y. leads y u w) (take (n + 1) xs)) (λ i. Any (λ y. leaves y i) xs)
+    → Adds s p q (λ u w. AnyBelow n (λ y. leads y u w) xs) (λ i. Any (λ y. leaves y i) xs) → Adds s q r (leads x) (leaves x)
+    → Adds s p r (λ u w. AnyBelow (n + 1) (λ y. leads y u w) xs) (λ i. Any (λ y. leaves y i) xs)
 adds_element {X} s p q r n xs x leads leaves small there before now =
-    adds_both s p q r (λ u w. Any (λ y. leads y u w) (take n xs)) (leads x) (λ u w. Any (λ y. leads y u w) (take (n + 1) xs))
+    adds_both s p q r (λ u w. AnyBelow n (λ y. leads y u w) xs) (leads x) (λ u w. AnyBelow (n + 1) (λ y. leads y u w) xs)
     (λ i. Any (λ y. leaves y i) xs) (leaves x) (λ i. Any (λ y. leaves y i) xs) before now
-    (λ u w among. split (λ y. leads y u w) among) (λ i among. among) (λ i left. (n, x, small, there, left))
-  where
-    split : (P : X → Type 0) → Any P (take (n + 1) xs) → Any P (take n xs) ⊎ P x
-    split P (k, y, below, is, holds) = at (cases_eq k n)
-      where
-        small_k : k < n + 1
-        small_k = subst (λ m. k < m) (length-take-le (n + 1) xs (omega arith)) below
-
-        here : slice_index_or xs k y ≡ y
-        here = sym (get_or-take (n + 1) xs k y small_k) ∙ is
-
-        at : (k ≡ n) ⊎ (k ≢ n) → Any P (take n xs) ⊎ P x
-        at (inl same) = inr (subst P (sym here ∙ ap (λ j. slice_index_or xs j y) same ∙ get_or_default xs n y x small ∙ there) holds)
-        at (inr differs) =
-            let before : k < n = (let small = small_k in omega arith) in
-            inl (k, y, subst (λ m. k < m) (sym (length-take-le n xs (omega arith))) before, get_or-take n xs k y before ∙ here, holds)
+    (λ u w any. ⊎_elim (λ earlier. inl (earlier.0, earlier.2.0, earlier.1, earlier.2.1, earlier.2.2))
+    (λ last. inr (subst (λ y. leads y u w) (sym last.1 ∙ get_or_default xs n last.0 x small ∙ there) last.2))
+    (below_or_last (λ k. (y : X) × (slice_index_or xs k y ≡ y) × leads y u w) n (any.0, any.2, (any.1, any.3, any.4))))
+    (λ i any. any) (λ i left. (n, x, small, there, left))
 
 -- ---- a branch
 

@@ -1,5 +1,5 @@
 -- What the clauses of a role lead to, reservation after reservation, and that with looks they are all that is done.
-use Rattle.pr_interference.proofs.Common.{◌≡◌, ℕ, ◌<◌, true, false, ◌⊎◌, List, sym, refl, ◌∙◌, subst, inl, inr, false≢true, and_parts, has_wide, UnitState, effect, is_action, names, holds, Clause, view_in, Scope, number_of, count_of_reservations, Item, Registration, Reservation, Attentions, IsPossible, Shows, Possibilities, one_reservation, Allows, Adds, IsLike, so_like, IsDone, IsLeft, IsInterference, Onlooker, IsClause, PlaceLeads, IsWidened, IsOnlooking, Any, ClauseLeads, ClauseLeaves}
+use Rattle.pr_interference.proofs.Common.{◌≡◌, ℕ, ◌<◌, true, false, ◌⊎◌, List, sym, refl, ◌∙◌, subst, inl, inr, false≢true, and_parts, has_wide, UnitState, effect, is_action, names, holds, Clause, view_in, Scope, number_of, count_of_reservations, Item, Registration, Reservation, Attentions, IsPossible, Shows, Possibilities, one_reservation, Allows, Adds, IsLike, so_like, IsDone, IsLeft, IsInterference, Onlooker, PlaceLeads, IsWidened, IsOnlooking, Any, ClauseLeads, ClauseLeaves}
 use Rattle.pr_unit.specs.UnitStates.{IsWellFormed}
 use Rattle.pr_unit.proofs.lemmas.Steps.WellFormedSteps.{well_formed-step, hosts-step}
 use Rattle.pr_interference.specs.inside.Reaching.{HasShown}
@@ -44,7 +44,7 @@ alike s o old answer u w has_shown kept shown like = record {
 }
 
 -- what a command of the clause leads to under each reservation is all that one leads to, where the answer has what is shown
-pub adds_placed : (s : Scope) (o : Onlooker) (clause : Clause) (old answer : Possibilities) → IsOnlooking s o → IsClause o.keys.now clause → HasShown s o.view old
+pub adds_placed : (s : Scope) (o : Onlooker) (clause : Clause) (old answer : Possibilities) → IsOnlooking s o → is_action o.keys.now clause.action ≡ true → HasShown s o.view old
     → Adds s old answer (λ u w. (x : ℕ) × (x < count_of_reservations o.hosts) × PlaceLeads (view_in s o.view) clause o.other x u w) (ClauseLeaves (view_in s o.view) clause o.other)
     → Adds s old answer (ClauseLeads (view_in s o.view) clause o.other) (ClauseLeaves (view_in s o.view) clause o.other)
 adds_placed s o clause old answer is declared has_shown adds = record { kept = adds.kept; all = all; only = adds.only }

@@ -1,5 +1,5 @@
 -- The reach of each clause, and what is possible within it.
-use Rattle.pr_interference.proofs.Common.{◌≡◌, ℕ, zero, suc, ◌<◌, ◌≤◌, Bool, true, false, not, ◌&&◌, ◌||◌, ◌≢◌, ◌⊎◌, List, length, if◌then◌else◌, ◌==◌, bit_or, Some, None, Option, sym, refl, ap, ◌∙◌, subst, inl, inr, arith, false≢true, and_parts, eqb_tells, nat_tests, has_wide, has, BitSet, MOST_NEXUSES, Kind, is_kind, is_told_of_loss, is_held_by_all, key_of, is_registered, kind_of, new_reservation, IsKey, Held, One, UnitState, is_action, names, holds, Action, Clause, has_at, view_in, Scope, number_of, Item, Registration, Reservation, Attentions, IsSo, IsPossible, Shows, Possibilities, one_registration, one_attentions, number_in, purpose_of_preempt, Place, Purpose, Allows, Adds, same_reservation, few_keys, Onlooker, Reach, purpose_for, IsClause, PlaceLeads, IsWatched, IsOnlooking, ClauseLeads, ClauseLeaves, count_of_reservations, ATTENTION_SETS, MOST_KEYS, or_left}
+use Rattle.pr_interference.proofs.Common.{◌≡◌, ℕ, zero, suc, ◌<◌, ◌≤◌, Bool, true, false, not, ◌&&◌, ◌||◌, ◌≢◌, ◌⊎◌, List, length, if◌then◌else◌, ◌==◌, bit_or, Some, None, Option, sym, refl, ap, ◌∙◌, subst, inl, inr, arith, false≢true, and_parts, eqb_tells, nat_tests, has_wide, has, BitSet, MOST_NEXUSES, Kind, is_kind, is_told_of_loss, is_held_by_all, key_of, is_registered, kind_of, new_reservation, IsKey, Held, One, UnitState, is_action, names, holds, Action, Clause, has_at, view_in, Scope, number_of, Item, Registration, Reservation, Attentions, IsSo, IsPossible, Shows, Possibilities, one_registration, one_attentions, number_in, purpose_of_preempt, Place, Purpose, Allows, Adds, same_reservation, few_keys, Onlooker, Reach, purpose_for, PlaceLeads, IsWatched, IsOnlooking, ClauseLeads, ClauseLeaves, count_of_reservations, ATTENTION_SETS, MOST_KEYS, or_left}
 use Rattle.pr_unit.specs.declared.demand.Demand.TheVariants.{Register, Unregister, Reserve, Release, Clear, PreemptAll, Preempt}
 use Rattle.std.specs.List.{All as Each}
 use Rattle.std.proofs.lemmas.Bool.{or_right}
@@ -293,7 +293,7 @@ module _ (s : Scope) (o : Onlooker) (clause : Clause) (reach : Reach) (is : IsOn
 
 -- ---- an answer that has the most
 
-pub adds_most : (s : Scope) (o : Onlooker) (clause : Clause) (old answer : Possibilities) (Leads : UnitState → UnitState → Type 0) → IsOnlooking s o → IsClause o.keys.now clause → HasShown s o.view old
+pub adds_most : (s : Scope) (o : Onlooker) (clause : Clause) (old answer : Possibilities) (Leads : UnitState → UnitState → Type 0) → IsOnlooking s o → is_action o.keys.now clause.action ≡ true → HasShown s o.view old
     → IsMost s o.view clause o.other answer → Adds s old answer Leads (ClauseLeaves (view_in s o.view) clause o.other)
     → Adds s old answer (ClauseLeads (view_in s o.view) clause o.other) (ClauseLeaves (view_in s o.view) clause o.other)
 adds_most s o clause old answer Leads is declared shown most adds = adds_placed s o clause old answer is declared shown (record { kept = adds.kept; all = all; only = adds.only })

@@ -1,5 +1,5 @@
 -- What a command reaches under the reservations that some may hold.
-use Rattle.pr_interference.proofs.Common.{◌≡◌, ℕ, ◌<◌, Bool, true, false, Some, Option, sym, refl, ap, ◌∙◌, subst, has_wide, new_reservation, Held, is_action, Kind, Clause, Scope, number_of, None, One, is_held_by_all, false≢true, and_parts, not, arith, nat_tests, count_of_reservations, one_reservation, Place, Onlooker, Reach, IsClause, IsWatched, IsOnlooking}
+use Rattle.pr_interference.proofs.Common.{◌≡◌, ℕ, ◌<◌, Bool, true, false, Some, Option, sym, refl, ap, ◌∙◌, subst, has_wide, new_reservation, Held, is_action, Kind, Clause, Scope, number_of, None, One, is_held_by_all, false≢true, and_parts, not, arith, nat_tests, count_of_reservations, one_reservation, Place, Onlooker, Reach, IsWatched, IsOnlooking}
 use Rattle.std.specs.Prelude.{nat_lt}
 use Rattle.pr_registry.specs.declared.held.Held.TheVariants.{All}
 use Rattle.pr_registry.specs.Registrations.{is_all}
@@ -43,7 +43,7 @@ module _ (s : Scope) (o : Onlooker) (place : Place) (is : IsWatched s o place) w
   possible_by_number = subst (λ x. has_wide o.view.reservations x ≡ true) place.number is.known.possible
 
 -- What is reached under each reservation that they may hold, where the condition is met, is reached.
-pub reach_of_held : (s : Scope) (o : Onlooker) (clause : Clause) (reach : Reach) (holders met : Holders) → IsOnlooking s o → IsClause o.keys.now clause → AreHolders o.hosts o.view.reservations holders
+pub reach_of_held : (s : Scope) (o : Onlooker) (clause : Clause) (reach : Reach) (holders met : Holders) → IsOnlooking s o → is_action o.keys.now clause.action ≡ true → AreHolders o.hosts o.view.reservations holders
     → ((held : Option Held) → IsHeldAmong holders held → holds_as clause.condition held o.other true ≡ true → IsHeldAmong met held)
     → ((place : Place) → place.hosts ≡ o.hosts → place.sender ≡ o.other → IsWatched s o place → is_action s.keys clause.action ≡ true → IsHeldAmong met place.held → IsReach s o.view clause place.sender place.reservation reach)
     → (x : ℕ) → IsReach s o.view clause o.other x reach

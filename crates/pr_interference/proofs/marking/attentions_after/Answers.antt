@@ -1,4 +1,4 @@
-use Rattle.pr_interference.proofs.Common.{◌≡◌, true, bit_or, sym, ◌∙◌, subst, arith, has, ATTENTION_SETS}
+use Rattle.pr_interference.proofs.Common.{◌≡◌, true, sym, ◌∙◌, subst, arith, has, ATTENTION_SETS}
 use Rattle.std.proofs.Math.Bool.{or_comm}
 use Rattle.pr_interference.proofs.lemmas.Marks.Images.{union_joined, union_skips, told_from_marks}
 use Rattle.pr_interference.proofs.marking.attentions_after.Goals.{then-has, else-has}

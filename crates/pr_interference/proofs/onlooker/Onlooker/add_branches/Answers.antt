@@ -1,5 +1,4 @@
 use Rattle.pr_interference.proofs.Common.{◌≡◌, ◌<◌, length, slice_index_or, None, arith, get_or_default, Branch, IsLedBy, IsLeftBy}
-use Rattle.std.proofs.lemmas.List.{take_all}
 use Rattle.pr_regions.specs.declared.region.Ending.TheVariants as ending
 use Rattle.pr_interference.proofs.lemmas.Interfering.Additions.{adds_element}
 use Rattle.pr_interference.proofs.onlooker.Onlooker.add_branches.Goals as goal
@@ -16,4 +15,4 @@ loop-branch-preserved c s is uniform proper =
     small (get_or_default branches n branch spare small) (c.loop-branch.invariant s is uniform proper) (c.add_branch.ensures s is uniform (proper n spare small))
 
 pub returns : goal.returns
-returns c = rw (take_all c.loop-branch.branch-index c.args.branches.now (omega arith)) at c.loop-branch.invariant
+returns c = let all : c.loop-branch.branch-index ≡ length c.args.branches.now = omega arith in rw all at c.loop-branch.invariant

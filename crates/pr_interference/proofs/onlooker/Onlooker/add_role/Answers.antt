@@ -1,5 +1,4 @@
-use Rattle.pr_interference.proofs.Common.{◌<◌, length, arith, get_or_default, view_in, ClauseLeads, ClauseLeaves}
-use Rattle.std.proofs.lemmas.List.{take_all}
+use Rattle.pr_interference.proofs.Common.{◌≡◌, ◌<◌, length, arith, get_or_default, view_in, ClauseLeads, ClauseLeaves}
 use Rattle.pr_interference.proofs.lemmas.Interfering.Additions.{adds_element}
 use Rattle.pr_interference.proofs.onlooker.Onlooker.add_role.Goals as goal
 
@@ -13,7 +12,7 @@ loop-clause-preserved c s is =
     small (get_or_default clauses n _ _ small) (c.loop-clause.invariant s is) (c.add_clause.ensures s is)
 
 pub returns : goal.returns
-returns c = rw (take_all c.loop-clause.clause-index c.args.self.now.clauses.now (omega arith)) at c.loop-clause.invariant
+returns c = let all : c.loop-clause.clause-index ≡ length c.args.self.now.clauses.now = omega arith in rw all at c.loop-clause.invariant
 
 pub add_clause-requires-clause-shown : goal.add_clause-requires-clause-shown
 add_clause-requires-clause-shown c s is u i shown so = (c.loop-clause.invariant s is).kept i (c.requires.shown s is u i shown so)
