@@ -1,5 +1,4 @@
 pub mod Beginning
-pub mod Owners
 pub mod Permitting
 pub mod Ranges
 pub mod Reporting

@@ -10,10 +10,10 @@ ghost use Rattle.pr_sets.specs.BitSets.{has};
 ghost use Rattle.pr_sets.specs.Numbers.{Within};
 ghost use Rattle.pr_sets.specs.Wides.{has_wide};
 ghost use Rattle.pr_views.specs.Views.{Fits};
-ghost use Rattle.pr_views.specs.Portions.{has_at};
+ghost use Rattle.pr_views.specs.Portions.{has_at, view_in};
 ghost use Rattle.pr_views.specs.Rooms.{view_of, AreInRange};
 ghost use Rattle.pr_domain.specs.Starting.{IsOfStart};
-ghost use Rattle.pr_domain.specs.inside.Beginning.{registration_in, has_alternative, may_have, has_reservation};
+ghost use Rattle.pr_domain.specs.inside.Beginning.{registration_in, has_alternative, may_have, has_reservation, scope_in, AreAlternatives};
 
 use pr_attention::Pending;
 use pr_cdb::codes::MOST_NEXUSES;
@@ -55,12 +55,11 @@ struct Owner<'a> {
 }
 
 impl Owner<'_> {
-    ghost use Rattle.pr_domain.specs.inside.Owners.{view_of_owner, keys_of_owner, AreAlternativesOf, IsOfStartOf};
-
     // The possibilities of the states from which its scenario may start.
     fn starts(&self) -> Possibilities
         ensures range { AreInRange self.now.hosts self.now.parts.now.keys.items result }
-        ensures start { IsOfStartOf self.now result }
+        ensures start { IsOfStart (scenario_of self.now.parts.now)
+            (view_in (scope_in self.now.own self.now.hosts self.now.parts.now) result) }
     {
         // With some of them no state is well formed, as where a holder has no key.
         kept(self.hosts, &self.alternatives())
@@ -68,8 +67,10 @@ impl Owner<'_> {
 
     // Everything that is written of the start.
     fn alternatives(&self) -> Possibilities
-        ensures alternatives { AreAlternativesOf self.now result }
-        ensures fits { Fits (view_of_owner self.now result) }
+        ensures alternatives { AreAlternatives (scenario_of self.now.parts.now)
+            (scope_in self.now.own self.now.hosts self.now.parts.now) result }
+        ensures fits { Fits (view_in
+            (scope_in self.now.own self.now.hosts self.now.parts.now) result) }
     {
         Possibilities {
             registrations: self.registrations(&self.parts.nexuses),
@@ -82,7 +83,7 @@ impl Owner<'_> {
     fn registrations(&self, nexuses: &[Nexus]) -> [BitSet; MOST_NEXUSES]
         requires { length nexuses.now ≤ MOST_NEXUSES }
         ensures { (g r : ℕ) → has_at result g r
-            ≡ may_have (keys_of_owner self.now) nexuses.now g r }
+            ≡ may_have self.now.parts.now.keys.items nexuses.now g r }
     {
         let mut words = [BitSet::none(); MOST_NEXUSES];
         for (host, nexus) in nexuses.iter().enumerate() {
@@ -93,8 +94,8 @@ impl Owner<'_> {
 
     // The numbers of these registrations.
     fn registrations_of(&self, alternatives: &[Option<u64>]) -> BitSet
-        ensures { (r : ℕ) → has result r ≡ has_alternative (keys_of_owner self.now) alternatives.now
-            r }
+        ensures { (r : ℕ) → has result r
+            ≡ has_alternative self.now.parts.now.keys.items alternatives.now r }
     {
         let mut numbers = BitSet::none();
         for key in alternatives {
@@ -104,7 +105,7 @@ impl Owner<'_> {
     }
 
     fn registration_in(&self, key: Option<u64>) -> u8
-        ensures number { result ≡ registration_in (keys_of_owner self.now) key }
+        ensures number { result ≡ registration_in self.now.parts.now.keys.items key }
         ensures few { result ≤ MOST_KEYS }
     {
         match key {
