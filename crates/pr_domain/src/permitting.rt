@@ -1,7 +1,6 @@
 //! Whether a role permits a command of its host in each state of the host's view in which the command ends GOOD.
 
 ghost use Rattle.std.specs.Prelude.{◌≡◌, ◌<◌, ◌↔◌, ℕ, true, false, ◌==◌, ◌&&◌, not, IsTrue};
-ghost use Rattle.std.specs.List.{list_any};
 ghost use Rattle.pr_script.specs.Grammar.{is_written};
 ghost use Rattle.pr_sets.specs.BitSets.{has};
 ghost use Rattle.pr_sets.specs.Wides.{has_wide};

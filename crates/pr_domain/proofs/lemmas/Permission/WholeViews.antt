@@ -59,22 +59,8 @@ module _ (own hosts : ℕ) (items : List ℕ) (p : Possibilities) (w : View) (ro
   permitted_of_busy there tells none =
       permitted_where_busy w role c looks (false_from_ne_true (w.pending 0) (λ is. false≢true (sym none ∙ tells ∙ (same (Attentions 0)).1 is)))
 
-  pub permitted_of_words : (keys : List ℕ) (clauses : List Clause) → keys ≡ items → clauses ≡ role
-      → ArePermitted (view_in (scope_at keys hosts own) p) clauses c (λ u. Unit {0}) → IsPermittedIn w role c
-  permitted_of_words keys clauses keyed listed permitted =
-      permitted_alike v w role c (sym scope) (λ i. (same i).1)
-      (permitted_from_each v role c looks
-      (subst (λ l. ArePermitted v l c (λ u. Unit {0})) listed (subst (λ k. ArePermitted (view_in (scope_at k hosts own) p) clauses c (λ u. Unit {0})) keyed permitted)))
-    where
-      v : View
-      v = view_in (scope_at items hosts own) p
+  pub permitted_of_words : ArePermitted (view_in (scope_at items hosts own) p) role c (λ u. Unit {0}) → IsPermittedIn w role c
+  permitted_of_words permitted = permitted_alike (view_in (scope_at items hosts own) p) w role c (sym scope) (λ i. (same i).1) (permitted_from_each (view_in (scope_at items hosts own) p) role c looks permitted)
 
-  pub refused_of_words : (keys : List ℕ) (clauses : List Clause) → keys ≡ items → clauses ≡ role
-      → IsOneRefused (view_in (scope_at keys hosts own) p) clauses c (λ u. Unit {0}) → IsRefusedIn w role c
-  refused_of_words keys clauses keyed listed one =
-      refused_alike v w role c (sym scope) (λ i. (same i).0)
-      (refused_from_one v role c looks
-      (subst (λ l. IsOneRefused v l c (λ u. Unit {0})) listed (subst (λ k. IsOneRefused (view_in (scope_at k hosts own) p) clauses c (λ u. Unit {0})) keyed one)))
-    where
-      v : View
-      v = view_in (scope_at items hosts own) p
+  pub refused_of_words : IsOneRefused (view_in (scope_at items hosts own) p) role c (λ u. Unit {0}) → IsRefusedIn w role c
+  refused_of_words one = refused_alike (view_in (scope_at items hosts own) p) w role c (sym scope) (λ i. (same i).0) (refused_from_one (view_in (scope_at items hosts own) p) role c looks one)

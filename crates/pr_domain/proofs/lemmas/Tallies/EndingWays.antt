@@ -1,5 +1,5 @@
 -- What is added for each way in which a command can end.
-use Rattle.pr_domain.proofs.Common.{◌≡◌, ℕ, zero, suc, ◌+◌, ◌-◌, ◌<◌, ◌≤◌, false, ◌||◌, ◌⊎◌, ◌↔◌, List, length, slice_get, Some, sym, refl, ap, ◌∙◌, subst, inl, inr, arith, lit<, has_wide, BitSet, Command, Reply, Sense, Plain, power_on, code_of, Attention, PowerOn, command_conflicts, command_fault, good, check, conflict, report, UnitState, is_pending, matches, Test, has_at, Item, Registration, Reservation, Attentions, View, Possibilities, IsClass, IsLanding, Good, Landing, Unserved, AreReported, AreMore, Ending, Reports, Conflicts, Fails, EndsGood, Refuses, refusal, Ends, landing_at, LandsBy, LandsGood, view_of_sending, IsOfWayAt, LandsOf, IsRegistered, has_part, Leaves, ATTENTION_SETS, MOST_ARMS, scope_of_sending, MayReport}
+use Rattle.pr_domain.proofs.Common.{◌≡◌, ℕ, zero, suc, ◌+◌, ◌-◌, ◌<◌, ◌≤◌, false, ◌||◌, ◌↔◌, List, length, slice_get, Some, sym, refl, ap, ◌∙◌, subst, arith, lit<, has_wide, BitSet, Command, Reply, Sense, Plain, power_on, code_of, Attention, PowerOn, command_conflicts, command_fault, good, check, conflict, report, UnitState, is_pending, matches, Test, has_at, Item, Registration, Reservation, Attentions, View, Possibilities, IsClass, IsLanding, Good, Landing, Unserved, AreReported, AreMore, Ending, Reports, Conflicts, Fails, EndsGood, Refuses, refusal, Ends, landing_at, LandsBy, LandsGood, view_of_sending, IsOfWayAt, LandsOf, IsRegistered, has_part, Leaves, ATTENTION_SETS, MOST_ARMS, scope_of_sending, MayReport}
 use Rattle.std.proofs.lemmas.List.Quantifiers.{position-Some}
 use Rattle.pr_script.specs.declared.script.Test.TheVariants as test
 use Rattle.pr_script.specs.declared.landing.Landing.TheVariants.{Arm, NoArm}

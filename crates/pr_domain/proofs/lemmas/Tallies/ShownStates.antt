@@ -1,5 +1,5 @@
 -- The states that a view shows, by their reservation and the owner's registration, one after another.
-use Rattle.pr_domain.proofs.Common.{◌≡◌, ℕ, ◌+◌, ◌<◌, ◌≤◌, true, false, ◌||◌, ◌≢◌, ◌⊎◌, List, length, sym, ◌∙◌, subst, inl, inr, arith, false≢true, cases_lt, has_wide, has, BitSet, Command, UnitState, Test, has_at, view_in, Scope, count_of_reservations, number_of, Item, Registration, Reservation, IsSo, View, Shows, Possibilities, holds_at-get_or, IsPlace, Place, Tally, has_tallied, IsFound, Grows, IsTally, HasBoth, HasOneOf, IsUnder, IsReserved, IsOwners, IsOfScope}
+use Rattle.pr_domain.proofs.Common.{◌≡◌, ℕ, ◌+◌, ◌<◌, ◌≤◌, true, false, ◌||◌, ◌≢◌, ◌⊎◌, List, length, sym, ◌∙◌, subst, inl, inr, arith, false≢true, cases_lt, has_wide, has, BitSet, Command, UnitState, Test, has_at, view_in, Scope, count_of_reservations, number_of, Item, Registration, IsSo, View, Shows, Possibilities, holds_at-get_or, IsPlace, Place, Tally, has_tallied, IsFound, Grows, IsTally, HasBoth, HasOneOf, IsUnder, IsReserved, IsOwners, IsOfScope}
 use Rattle.std.proofs.Common.{slice_index_or, ⊎_elim}
 use Rattle.std.proofs.lemmas.Bool.{or_left, or_right, or_cases}
 use Rattle.pr_views.proofs.lemmas.Rooms.Places.{holds_at_past}

@@ -10,11 +10,11 @@ returns-then-not-has-clause-permitted g c is =
 pub returns-clause-permitted : goal.returns-clause-permitted
 returns-clause-permitted g c is =
     permitted_of_words c.args.host c.args.view.now.hosts c.args.view.now.keys.items c.possibilities-possible.result (view_of c.args.host c.args.view.now) c.args.role.now.clauses.items
-    c.args.command.now refl (c.possibilities-possible.ensures.same c.args.host) (sym c.is_always_permitted.ensures ∙ c.if-is_always_permitted.false) c.deref.result.now c.deref-2.result.now
-    c.deref.ensures.0 c.deref-2.ensures.value (c.is_permitted_under_each.ensures.permitted is)
+    c.args.command.now refl (c.possibilities-possible.ensures.same c.args.host) (sym c.is_always_permitted.ensures ∙ c.if-is_always_permitted.false)
+    (rw c.deref.ensures.0 at (rw c.deref-2.ensures.value at c.is_permitted_under_each.ensures.permitted is))
 
 pub returns-clause-refused : goal.returns-clause-refused
 returns-clause-refused g c denied =
     refused_of_words c.args.host c.args.view.now.hosts c.args.view.now.keys.items c.possibilities-possible.result (view_of c.args.host c.args.view.now) c.args.role.now.clauses.items
-    c.args.command.now refl (c.possibilities-possible.ensures.same c.args.host) (sym c.is_always_permitted.ensures ∙ c.if-is_always_permitted.false) c.deref.result.now c.deref-2.result.now
-    c.deref.ensures.0 c.deref-2.ensures.value (c.is_permitted_under_each.ensures.refused denied)
+    c.args.command.now refl (c.possibilities-possible.ensures.same c.args.host) (sym c.is_always_permitted.ensures ∙ c.if-is_always_permitted.false)
+    (rw c.deref.ensures.0 at (rw c.deref-2.ensures.value at c.is_permitted_under_each.ensures.refused denied))

@@ -1,4 +1,4 @@
-use Rattle.pr_domain.proofs.Common.{◌≡◌, ◌+◌, suc, arith, slice_get, Some, sym, ap, ◌∙◌, landing_at}
+use Rattle.pr_domain.proofs.Common.{◌≡◌, ◌+◌, suc, arith, slice_get, sym, ap, ◌∙◌, landing_at}
 use Rattle.pr_domain.proofs.lemmas.Tallies.EndingWays.{adds_good, at_arm}
 use Rattle.pr_domain.proofs.reporting.Sending.add_good.Goals.{then-arm-eq0, else-arm-eq0}
 use Rattle.pr_domain.proofs.reporting.Sending.add_good.Goals as goal
