@@ -7,14 +7,14 @@ use Rattle.pr_unit.proofs.lemmas.UnitStates.Releases.{HasNoEffect, held_or_unrel
 use Rattle.pr_roles.specs.declared.role.Action.TheVariants as action
 use Rattle.pr_unit.specs.Demands.{registering, preempting}
 use Rattle.pr_regions.specs.Purposes.{numbered}
-use Rattle.pr_roles.proofs.lemmas.FirstElements.Tests.{any_found}
+use Rattle.std.proofs.lemmas.List.Folds.{Any-from_list_any}
 
 -- ---- keys
 
 pub declared_key : (keys : List ℕ) (key : ℕ) → AreDeclared keys → is_declared keys key ≡ true → IsKey key
 declared_key keys key declared is =
-    let found = any_found (λ k. k == key) keys is in
-    subst IsKey (found.there ∙ eqb-true found.element key found.is) (declared.each found.place found.element found.below)
+    let found = Any-from_list_any (λ k. k == key) keys is in
+    subst IsKey (found.3 ∙ eqb-true found.1 key found.4) (declared.each found.0 found.1 found.2)
 
 not_zero : (key : ℕ) → IsKey key → (key == 0) ≡ false
 not_zero key is = let some = is.0 in grind (arith, nat_tests)
