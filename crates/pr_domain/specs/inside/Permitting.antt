@@ -8,13 +8,13 @@ use Rattle.pr_roles.specs.declared.role.Clause.{Clause}
 use Rattle.pr_roles.specs.Permits.{names, clause_permits}
 use Rattle.pr_sets.specs.BitSets.{has}
 use Rattle.pr_views.specs.declared.possibilities.Possibilities.{Possibilities}
-use Rattle.pr_views.specs.Possibilities.{Scope, Attentions, IsSo}
+use Rattle.pr_views.specs.Possibilities.{Scope, Reservation, Attentions, IsSo}
 use Rattle.pr_views.specs.Views.{View, Shows, Fits}
 use Rattle.pr_views.specs.Portions.{view_in}
 use Rattle.pr_regions.specs.Conditions.{holds_as}
 use Rattle.pr_regions.specs.declared.place.Place.{Place}
 use Rattle.pr_domain.specs.declared.tested.TestedCommand.{TestedCommand}
-use Rattle.pr_domain.specs.inside.Tallies.{IsUnder, scope_at}
+use Rattle.pr_domain.specs.inside.Tallies.{scope_at}
 
 -- nothing is pending for the owner, and its command neither conflicts nor is at fault
 pub record IsServed (s : Scope) (c : Command) (u : UnitState) : Type 0 where
@@ -22,17 +22,17 @@ pub record IsServed (s : Scope) (c : Command) (u : UnitState) : Type 0 where
   pub free : command_conflicts u.registry s.own c ≡ false
   pub whole : command_fault u.registry s.own c ≡ None
 
--- among these shown states, some clause permits the command in each in which it ends GOOD
-abbrev pub ArePermitted : View → List Clause → Command → (UnitState → Type 0) → Type 0
-ArePermitted v clauses c Among =
-    (u : UnitState) → Shows v u → Among u → IsServed v.scope c u
+-- some clause permits the command in each shown state with this reservation in which it ends GOOD
+abbrev pub ArePermitted : View → List Clause → Command → ℕ → Type 0
+ArePermitted v clauses c x =
+    (u : UnitState) → Shows v u → IsSo v.scope u (Reservation x) → IsServed v.scope c u
     → IsTrue (list_any (λ clause. clause_permits clause u.registry v.scope.own c) clauses)
 
--- among these shown states there is one in which it ends GOOD and no clause permits it
-pub record IsOneRefused (v : View) (clauses : List Clause) (c : Command) (Among : UnitState → Type 0) : Type 0 where
+-- there is such a state, and no clause permits it there
+pub record IsOneRefused (v : View) (clauses : List Clause) (c : Command) (x : ℕ) : Type 0 where
   pub unit : UnitState
   pub shown : Shows v unit
-  pub among : Among unit
+  pub reserved : IsSo v.scope unit (Reservation x)
   pub served : IsServed v.scope c unit
   pub refused : list_any (λ clause. clause_permits clause unit.registry v.scope.own c) clauses ≡ false
 
@@ -60,18 +60,16 @@ pub record IsAsking (q : TestedCommand) (hosts sender : ℕ) (view : Possibiliti
 
 -- some clause permits the command in each shown state in which it ends GOOD
 abbrev pub PermitsAll : TestedCommand → ℕ → ℕ → Possibilities → List Clause → Type 0
-PermitsAll q hosts sender view clauses = ArePermitted (view_of_asker q hosts sender view) clauses q.command (λ u. Unit {0})
+PermitsAll q hosts sender view clauses = (x : ℕ) → ArePermitted (view_of_asker q hosts sender view) clauses q.command x
 
 -- in one of them none does
 abbrev pub RefusesOne : TestedCommand → ℕ → ℕ → Possibilities → List Clause → Type 0
-RefusesOne q hosts sender view clauses = IsOneRefused (view_of_asker q hosts sender view) clauses q.command (λ u. Unit {0})
+RefusesOne q hosts sender view clauses = (x : ℕ) × IsOneRefused (view_of_asker q hosts sender view) clauses q.command x
 
 -- some clause permits it in each of those under the reservation of the place
 abbrev pub PermitsAt : TestedCommand → Place → Possibilities → List Clause → Type 0
-PermitsAt q place view clauses =
-    ArePermitted (view_of_asker q place.hosts place.sender view) clauses q.command (IsUnder (scope_at q.keys.now place.hosts place.sender) place)
+PermitsAt q place view clauses = ArePermitted (view_of_asker q place.hosts place.sender view) clauses q.command place.reservation
 
 -- in one of these none does
 abbrev pub RefusesAt : TestedCommand → Place → Possibilities → List Clause → Type 0
-RefusesAt q place view clauses =
-    IsOneRefused (view_of_asker q place.hosts place.sender view) clauses q.command (IsUnder (scope_at q.keys.now place.hosts place.sender) place)
+RefusesAt q place view clauses = IsOneRefused (view_of_asker q place.hosts place.sender view) clauses q.command place.reservation

@@ -19,13 +19,13 @@ permitted_where_busy v role c looks busy u r w shown step good =
     let seen = shown.pending in
     absurd (false≢true (sym busy ∙ subst (λ q. v.pending q ≡ true) (one_attentions v.scope u seen.0 0 seen.1.1 ends.idle) seen.1.0))
 
-pub permitted_from_each : (v : View) (role : List Clause) (c : Command) → is_always_permitted c ≡ false → ArePermitted v role c (λ u. Unit {0}) → IsPermittedIn v role c
+pub permitted_from_each : (v : View) (role : List Clause) (c : Command) → is_always_permitted c ≡ false → ((x : ℕ) → ArePermitted v role c x) → IsPermittedIn v role c
 permitted_from_each v role c looks permitted u r w shown step good =
-    or_right (is_always_permitted c) _ (permitted u shown tt (good_ends v.scope u c r w shown.formed step good looks))
+    or_right (is_always_permitted c) _ (permitted shown.reservation.0 u shown shown.reservation.1.1 (good_ends v.scope u c r w shown.formed step good looks))
 
 -- a state in which it ends GOOD, with the step
-pub refused_from_one : (v : View) (role : List Clause) (c : Command) → is_always_permitted c ≡ false → IsOneRefused v role c (λ u. Unit {0}) → IsRefusedIn v role c
-refused_from_one v role c looks one = record {
+pub refused_from_one : (v : View) (role : List Clause) (c : Command) → is_always_permitted c ≡ false → (x : ℕ) × IsOneRefused v role c x → IsRefusedIn v role c
+refused_from_one v role c looks (x, one) = record {
   from = one.unit;
   shown = one.shown;
   reply = _;
@@ -59,8 +59,8 @@ module _ (own hosts : ℕ) (items : List ℕ) (p : Possibilities) (w : View) (ro
   permitted_of_busy there tells none =
       permitted_where_busy w role c looks (false_from_ne_true (w.pending 0) (λ is. false≢true (sym none ∙ tells ∙ (same (Attentions 0)).1 is)))
 
-  pub permitted_of_words : ArePermitted (view_in (scope_at items hosts own) p) role c (λ u. Unit {0}) → IsPermittedIn w role c
+  pub permitted_of_words : ((x : ℕ) → ArePermitted (view_in (scope_at items hosts own) p) role c x) → IsPermittedIn w role c
   permitted_of_words permitted = permitted_alike (view_in (scope_at items hosts own) p) w role c (sym scope) (λ i. (same i).1) (permitted_from_each (view_in (scope_at items hosts own) p) role c looks permitted)
 
-  pub refused_of_words : IsOneRefused (view_in (scope_at items hosts own) p) role c (λ u. Unit {0}) → IsRefusedIn w role c
+  pub refused_of_words : (x : ℕ) × IsOneRefused (view_in (scope_at items hosts own) p) role c x → IsRefusedIn w role c
   refused_of_words one = refused_alike (view_in (scope_at items hosts own) p) w role c (sym scope) (λ i. (same i).0) (refused_from_one (view_in (scope_at items hosts own) p) role c looks one)

@@ -77,7 +77,7 @@ module _ (q : TestedCommand) (place : Place) (view : Possibilities) (clauses : L
             record {
               unit = found.unit;
               shown = found.shown;
-              among = found.among.2.0;
+              reserved = found.among.2.0;
               served = record { idle = found.pending; free = found.leaves.0; whole = found.leaves.1 };
               refused = by_number r found.unit found.shown found.among.2.0 found.among.2.1.1 found.among.2.1.2
                   ∙ not-true (is_one_permitting clauses q.command place (not (r == 0))) unpermitted;
@@ -87,15 +87,15 @@ module _ (q : TestedCommand) (place : Place) (view : Possibilities) (clauses : L
 
 -- a reservation that the view has not
 pub not_shown : (s : Scope) (view : Possibilities) (clauses : List Clause) (c : Command) (x : ℕ) → has_wide view.reservations x ≡ false
-    → ArePermitted (view_in s view) clauses c (λ u. IsSo s u (Reservation x))
+    → ArePermitted (view_in s view) clauses c x
 not_shown s view clauses c x none u shown so served =
     let seen = shown.reservation in
     absurd (false≢true (sym none ∙ subst (λ y. has_wide view.reservations y ≡ true) (one_reservation s u seen.0 x seen.1.1 so) seen.1.0))
 
 pub each_reservation : (q : TestedCommand) (hosts sender : ℕ) (view : Possibilities) (clauses : List Clause) (n : ℕ) → IsAsking q hosts sender view → count_of_reservations hosts ≤ n
-    → ((x : ℕ) → x < n → ArePermitted (view_of_asker q hosts sender view) clauses q.command (λ u. IsSo (scope_at q.keys.now hosts sender) u (Reservation x)))
+    → ((x : ℕ) → x < n → ArePermitted (view_of_asker q hosts sender view) clauses q.command x)
     → PermitsAll q hosts sender view clauses
-each_reservation q hosts sender view clauses n asking all permitted u shown among served =
+each_reservation q hosts sender view clauses n asking all permitted x u shown so served =
     let seen = shown.reservation in
     let below = asking.fits.reservations seen.0 seen.1.0 in
     permitted seen.0 (omega arith) u shown seen.1.1 served

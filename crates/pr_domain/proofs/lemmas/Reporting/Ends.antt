@@ -2,7 +2,7 @@
 use Rattle.pr_domain.proofs.Common.{◌≡◌, ℕ, Bool, true, false, ◌⊎◌, IsTrue, Some, None, Option, sym, refl, ap, ◌∙◌, inl, inr, cases_eq, Command, Reply, Sense, Plain, power_on, code_of, Attention, PowerOn, command_conflicts, command_fault, report, Step, UnitState, is_pending, is_any_pending, IsWellFormed, after_report, Answered, Refusals, Ending, Reports, Conflicts, Fails, EndsGood, Refuses, Ends, MayReport}
 use Rattle.pr_attention.specs.Attentions.{each_attention}
 use Rattle.pr_attention.proofs.lemmas.FourCodes.{listed, which}
-use Rattle.pr_roles.proofs.lemmas.FirstElements.Tests.{any_from}
+use Rattle.std.proofs.lemmas.List.Folds.{list_any-from_Any}
 use Rattle.pr_unit.specs.Steps.{Reports as ReportsSome}
 use Rattle.pr_roles.specs.declared.how.How.TheVariants as answer
 use Rattle.pr_roles.specs.declared.how.How.{How}
@@ -46,7 +46,7 @@ answer_ends d u h c r w formed x = by x.how x.declared x.answer
 pub any_pending : (u : UnitState) (h : ℕ) (a : Attention) → is_pending u h (code_of a) ≡ true → is_any_pending u h ≡ true
 any_pending u h a is =
     let there = listed a in
-    any_from (λ x. is_pending u h (code_of x)) each_attention there.0 a there.1 there.2 is
+    list_any-from_Any (λ x. is_pending u h (code_of x)) each_attention (there.0, a, there.1, there.2, is)
 
 -- where nothing is pending, no power on is
 pub calm_from_quiet : (u : UnitState) (h : ℕ) → is_any_pending u h ≡ false → is_pending u h power_on ≡ false

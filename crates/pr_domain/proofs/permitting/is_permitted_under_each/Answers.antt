@@ -1,4 +1,4 @@
-use Rattle.pr_domain.proofs.Common.{sym, ◌∙◌, arith, Reservation, IsSo, scope_at}
+use Rattle.pr_domain.proofs.Common.{sym, ◌∙◌, arith, scope_at}
 use Rattle.std.proofs.Common.{below_more}
 use Rattle.pr_domain.specs.inside.Permitting.{ArePermitted, view_of_asker}
 use Rattle.pr_domain.proofs.lemmas.Permitting.Permissions.{not_shown, each_reservation}
@@ -6,18 +6,15 @@ use Rattle.pr_domain.proofs.permitting.is_permitted_under_each.Goals.{then-has+e
 use Rattle.pr_domain.proofs.permitting.is_permitted_under_each.Goals as goal
 
 pub returns-then-not-is_permitted_at-clause-refused : goal.returns-then-not-is_permitted_at-clause-refused
-returns-then-not-is_permitted_at-clause-refused c denied =
-    let one = c.is_permitted_at.ensures.refused c.if-not-is_permitted_at.true in
-    record { unit = one.unit; shown = one.shown; among = tt; served = one.served; refused = one.refused }
+returns-then-not-is_permitted_at-clause-refused c denied = (c.loop-reservation.reservation, c.is_permitted_at.ensures.refused c.if-not-is_permitted_at.true)
 
 pub loop-reservation-preserved : goal.loop-reservation-preserved
 loop-reservation-preserved c =
-    let s = scope_at c.args.asked.now.keys.now c.args.hosts c.args.sender in
-    below_more (λ x. ArePermitted (view_of_asker c.args.asked.now c.args.hosts c.args.sender c.args.view.now) c.args.clauses.now c.args.asked.now.command (λ u. IsSo s u (Reservation x)))
+    below_more (λ x. ArePermitted (view_of_asker c.args.asked.now c.args.hosts c.args.sender c.args.view.now) c.args.clauses.now c.args.asked.now.command x)
     c.loop-reservation.reservation c.loop-reservation.invariant
     (elim c.if-has.branch [
       | then-has+else-not-is_permitted_at w ↦ w.is_permitted_at.ensures.permitted w.if-not-is_permitted_at.false
-      | else-has w ↦ not_shown s c.args.view.now c.args.clauses.now c.args.asked.now.command c.loop-reservation.reservation (sym c.has.ensures ∙ w.if-has.false)
+      | else-has w ↦ not_shown (scope_at c.args.asked.now.keys.now c.args.hosts c.args.sender) c.args.view.now c.args.clauses.now c.args.asked.now.command c.loop-reservation.reservation (sym c.has.ensures ∙ w.if-has.false)
     ])
 
 pub returns-clause-permitted : goal.returns-clause-permitted
