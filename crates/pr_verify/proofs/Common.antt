@@ -1,12 +1,12 @@
 -- The names that most proofs of this crate cite, passed on from one place. Declares nothing.
 pub use Rattle.std.proofs.Common.{◌≡◌, ℕ, zero, suc, ◌+◌, ◌<◌, ◌≤◌, min, Bool, true, false, ◌&&◌, ◌≢◌, ◌⊎◌, ◌↔◌, List, [], ◌∷◌, ◌++◌, map, length, get_or, take, drop, is_some, IfErr, if◌then◌else◌, IsTrue, nat_lt, nat_le, ◌==◌, slice_get, slice_index_or, slice_set, Some, None, Ok, Err, vec_len, All, Contains, Option, Result, Vec, AllPairs, option_and_then, Global, sym, refl, ap, ◌∙◌, subst, inl, inr, arith, length-set, get_or-set_same, rules, ltb-true, leb-true, below_more}
-pub use Rattle.std.specs.List.{AllZip}
+pub use Rattle.std.specs.List.{AllWithin, AllZip, Any}
 pub use Rattle.std.specs.Option.{option_map_or}
 pub use Rattle.std.specs.Vec.Iter.{into_iter_items}
 pub use Rattle.std.proofs.lemmas.Bool.{false≢true, cases_lt, and_parts, cases_order, cases_eq}
 pub use Rattle.std.proofs.lemmas.Bool.Decides.{eqb_tells}
 pub use Rattle.std.proofs.lemmas.List.{length-map, get_or_default, get_or-map}
-pub use Rattle.std.proofs.lemmas.List.Elements.{All-nil, All-cons, All-append, All-map, All-contains, Contains-append_left, Contains-append_right, Contains-append_cases}
+pub use Rattle.std.proofs.lemmas.List.Elements.{at_read, AllWithin-none, AllWithin-more, All-nil, All-cons, All-append, All-map, All-contains, Contains-append_left, Contains-append_right, Contains-append_cases}
 pub use Rattle.std.proofs.lemmas.List.Quantifiers.{position-Some}
 pub use Rattle.std.proofs.lemmas.Option.{none-some, same_Some, slice_get_within, slice_get-get_or, slice_get_read, get_or_from_slice_get}
 pub use Rattle.std.proofs.lemmas.Result.{err_from_is_err_and}
@@ -37,7 +37,6 @@ pub use Rattle.pr_roles.specs.Starts.{IsAllowedStart}
 pub use Rattle.pr_roles.specs.Worlds.{World, control, Host, world_from}
 pub use Rattle.pr_roles.specs.declared.how.How.{How}
 pub use Rattle.pr_roles.specs.declared.how.Refusals.{Refusals}
-pub use Rattle.pr_roles.specs.inside.FirstElements.{Among}
 pub use Rattle.pr_roles.proofs.lemmas.FirstStarts.Existence.{slice_get_contains}
 pub use Rattle.pr_views.specs.Possibilities.{Scope, IsScope, Item, Registration, Reservation, Attentions, IsSo}
 pub use Rattle.pr_views.specs.Rooms.{scope_of, view_of, AreAlike}
@@ -65,17 +64,17 @@ pub use Rattle.pr_verify.specs.declared.known.Closing.{Closing}
 pub use Rattle.pr_verify.specs.declared.places.Spot.{Spot}
 pub use Rattle.pr_roles.specs.declared.refusal.Refusal.{Refusal}
 pub use Rattle.pr_verify.specs.declared.sketch.Sketch.{Sketch}
-pub use Rattle.pr_verify.specs.inside.Asked.{IsAnswerTo, AreAnswersTo}
+pub use Rattle.pr_verify.specs.inside.Asked.{asker_of}
 pub use Rattle.pr_verify.specs.inside.Checks.{IsAnswerFor, IsBegunFor, IsCheckFor, EachFrom, IsAnswerBefore}
 pub use Rattle.pr_verify.specs.inside.Gaining.{Has, IsAtRest, Gains, Reaches, IsLanded, ReachesNext}
-pub use Rattle.pr_verify.specs.inside.Inferring.{IsOf, AreOf, GoesOn, IsViewIn, IsSketch}
-pub use Rattle.pr_verify.specs.inside.Kept.{KeptView, KeptOutline}
-pub use Rattle.pr_verify.specs.inside.Known.{IsAnswer, refusals_for, IsClosing, AreEqual, AreKnown}
-pub use Rattle.pr_verify.specs.inside.Lacking.{HasAll, Lacks, IsFirstLacking, HasView, lines_after, HasNext, LacksNext}
-pub use Rattle.pr_verify.specs.inside.Least.{IsFirst, IsLeast, least, EachOf, IsLeastAmong}
+pub use Rattle.pr_verify.specs.inside.Inferring.{AreOf, GoesOn, IsViewIn, IsSketch}
+pub use Rattle.pr_verify.specs.inside.Kept.{KeptView, KeptOutline, IsOf, IsMadeAs}
+pub use Rattle.pr_verify.specs.inside.Known.{Asker, asker_in, AreAnswers, IsAnswerAt, StandsAt, IsClosing, AreEqual, AreKnown}
+pub use Rattle.pr_verify.specs.inside.Lacking.{HasAll, Lacks, IsFirstLacking, HasView, LacksView, lines_after}
+pub use Rattle.pr_verify.specs.inside.Least.{IsLeast, least, IsLeastAmong}
 pub use Rattle.pr_verify.specs.inside.Listing.{place_of, IsPlaceWritten, AreWritten}
 unfoldable pub use Rattle.pr_verify.specs.inside.Listing.{AreInRange}
-pub use Rattle.pr_verify.specs.inside.Reviewing.{IsLackingOfSends, IsUnarmed, IsFirstUnarmed}
+pub use Rattle.pr_verify.specs.inside.Reviewing.{IsFirstUnarmed}
 pub use Rattle.pr_verify.specs.inside.Tabling.{IsInRange}
-pub use Rattle.pr_verify.specs.inside.Underway.{outline_of_sketch, IsSettled, Closes}
+pub use Rattle.pr_verify.specs.inside.Underway.{outline_of_sketch, IsSettled}
 pub use Rattle.pr_script.specs.declared.limits.TheConstants.{MOST_ARMS}

@@ -1,8 +1,8 @@
 pub mod Checks
 pub mod Gaining
 pub mod Inferring
-pub mod Invariants
 pub mod Known
+pub mod Laws
 pub mod Least
 pub mod LeastOutlines
 pub mod Listing

@@ -1,4 +1,3 @@
-pub mod Invariants
 pub mod Listing
 pub mod Least
 pub mod Lacking

@@ -31,14 +31,15 @@ pub(crate) struct Questions<'a> {
 impl Questions<'_> {
     ghost use Rattle.std.specs.Prelude.{IsTrue, IfOk, IfSome, OnOk};
     ghost use Rattle.std.specs.List.{All};
-    ghost use Rattle.pr_verify.specs.inside.Asked.{IsSameQuestion, AreAnswersTo, IsAskedBefore, IsAnsweredAt};
+    ghost use Rattle.pr_verify.specs.inside.Asked.{asker_of};
+    ghost use Rattle.pr_verify.specs.inside.Known.{StandsAt, IsSameQuestion, AreAnswers, IsAnswerAt};
 
     // Whether the two places ask the same in views with the same possibilities. Few sends are of one command, so commands
     // are compared first.
     fn are_same(&self, place: usize, other: usize) -> bool
         requires place { place < length self.now.spots.now }
         requires other { other < length self.now.spots.now }
-        ensures { IsTrue result → IsSameQuestion self.now place other }
+        ensures { IsTrue result → IsSameQuestion (asker_of self.now) place other }
     {
         if !ask_the_same(&self.spots[place], &self.spots[other]) {
             return false;
@@ -52,7 +53,8 @@ impl Questions<'_> {
     fn place_of(&self, known: &[Answer], place: usize) -> Option<usize>
         requires there { place < length self.now.spots.now }
         requires known { All (λ a. a.spot < length self.now.spots.now) known.now }
-        ensures { IfSome result (IsAskedBefore self.now place known.now) }
+        ensures { IfSome result (StandsAt (λ a. IsSameQuestion (asker_of self.now) a.spot place)
+            known.now) }
     {
         for (number, answer) in known.iter().enumerate() {
             if self.are_same(answer.spot, place) {
@@ -70,9 +72,9 @@ impl Questions<'_> {
         place: usize,
     ) -> Result<usize, AllocError>
         requires there { place < length self.now.spots.now }
-        requires known { AreAnswersTo self.now known.old.items }
-        ensures known { OnOk result (AreAnswersTo self.now known.new.items) }
-        ensures answer { IfOk result (IsAnsweredAt self.now place known.new.items) }
+        requires known { AreAnswers (asker_of self.now) known.old.items }
+        ensures known { OnOk result (AreAnswers (asker_of self.now) known.new.items) }
+        ensures answer { IfOk result (IsAnswerAt (asker_of self.now) place known.new.items) }
     {
         if let Some(number) = self.place_of(known, place) {
             return Ok(number);

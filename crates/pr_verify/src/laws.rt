@@ -4,7 +4,7 @@ ghost use Rattle.pr_verify.specs.Laws.{OutlinesMakeSafe, ReasonsAreFinal};
 
 /// Outlines that are sound and fit, one for each scripted host, make a scenario safe, if the fields of what is sent are in the
 /// ranges of their types.
-#[tactic(auto, using(crate::proofs::lemmas::Invariants::Outlines::outlines_make_safe))]
+#[tactic(auto, using(crate::proofs::lemmas::Laws::Outlines::outlines_make_safe))]
 pub fn outlines_make_safe()
     ensures { OutlinesMakeSafe }
 {}

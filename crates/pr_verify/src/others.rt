@@ -2,15 +2,15 @@
 
 ghost use Rattle.std.specs.Prelude.{◌≡◌, ℕ, false, map, IsTrue, IfOk};
 ghost use Rattle.std.specs.List.{Contains};
-ghost use Rattle.pr_roles.specs.Scenarios.{scenario_of};
 ghost use Rattle.pr_views.specs.Rooms.{view_of};
-ghost use Rattle.pr_verify.specs.inside.Asked.{IsClosedIn, IsClosedToOthersIn, IsFirstLeft, IsOpenIn, scenario_in};
-ghost use Rattle.pr_verify.specs.inside.Lacking.{CanCompare, IsClosedToResetsOfAny, IsOpenOfAny};
-ghost use Rattle.pr_verify.specs.inside.Reviewing.{IsMadeAs};
+ghost use Rattle.pr_interference.specs.Interference.{IsClosed};
+ghost use Rattle.pr_verify.specs.inside.Asked.{IsFirstLeft, IsOpenIn, scenario_in, view_in};
+ghost use Rattle.pr_verify.specs.inside.Kept.{IsMadeAs};
+ghost use Rattle.pr_verify.specs.inside.Lacking.{CanCompare, IsClosedTo, IsClosedToResets};
 
 use crate::answers::Questions;
 use pr_interference::{interfere, reset};
-use pr_roles::{Scenario, nexus_in};
+use pr_roles::nexus_in;
 use pr_views::View;
 use std::alloc::{AllocError, Global};
 
@@ -46,23 +46,24 @@ fn is_one_of(view: &View, others: &[(u32, View)]) -> bool
 // Whether the view shows each state to which a permitted command of another or a reset leads from one that it shows.
 fn is_closed(alloc: Global, asked: &Questions, view: &View) -> Result<bool, AllocError>
     requires { IsMadeAs (scenario_in asked.now) view.now }
-    ensures closed { IfOk result (λ is. IsTrue is → IsClosedIn asked.now view.now) }
+    ensures closed { IfOk result (λ is. IsTrue is
+        → IsClosed (scenario_in asked.now) (view_in asked.now view.now)) }
     ensures open { IfOk result (λ is. is ≡ false → IsOpenIn asked.now view.now) }
 {
-    if !is_closed_to_resets(alloc, asked.scenario, view)? {
+    if !is_closed_to_resets(alloc, asked, view)? {
         return Ok(false);
     }
     is_closed_to_others(alloc, asked, view)
 }
 
 // Whether it shows each shown state after a reset, where the scenario has any.
-fn is_closed_to_resets(alloc: Global, scenario: &Scenario, view: &View) -> Result<bool, AllocError>
+fn is_closed_to_resets(alloc: Global, asked: &Questions, view: &View) -> Result<bool, AllocError>
+    requires { IsMadeAs (scenario_in asked.now) view.now }
     ensures closed { IfOk result (λ is. IsTrue is
-        → IsClosedToResetsOfAny (scenario_of scenario.now) view.now) }
-    ensures open { IfOk result (λ is. is ≡ false
-        → IsOpenOfAny (scenario_of scenario.now) view.now) }
+        → IsClosedToResets (scenario_in asked.now) (view_in asked.now view.now)) }
+    ensures open { IfOk result (λ is. is ≡ false → IsOpenIn asked.now view.now) }
 {
-    if scenario.parts().resets == 0 {
+    if asked.scenario.parts().resets == 0 {
         return Ok(true);
     }
     let left = reset(alloc, view)?;
@@ -72,7 +73,8 @@ fn is_closed_to_resets(alloc: Global, scenario: &Scenario, view: &View) -> Resul
 // Whether it shows each state to which a permitted command of another leads from one that it shows.
 fn is_closed_to_others(alloc: Global, asked: &Questions, view: &View) -> Result<bool, AllocError>
     requires { IsMadeAs (scenario_in asked.now) view.now }
-    ensures closed { IfOk result (λ is. IsTrue is → IsClosedToOthersIn asked.now view.now) }
+    ensures closed { IfOk result (λ is. IsTrue is
+        → IsClosedTo view.now.hosts (scenario_in asked.now) (view_in asked.now view.now)) }
     ensures open { IfOk result (λ is. is ≡ false → IsOpenIn asked.now view.now) }
 {
     let own = asked.outline.host;

@@ -5,11 +5,12 @@ ghost use Rattle.pr_script.specs.Trees.{script_of, statement_of, statements_in};
 ghost use Rattle.pr_script.specs.inside.ArmLists.{arms_in};
 ghost use Rattle.pr_verify.specs.Places.{places, places_in, places_of_arms, first_lines, lines_of, round, tests_of, next_of};
 ghost use Rattle.pr_verify.specs.Outlines.{SendsFit};
+ghost use Rattle.pr_verify.specs.inside.Lacking.{lines_after};
 ghost use Rattle.pr_verify.specs.inside.Listing.{lines_in, AreInRange, AreSendsOf, HasMore};
 
 use crate::head::{Head, head_in};
 use pr_cdb::{Command, in_range};
-use pr_script::{Arm, Script, Statement, Test};
+use pr_script::{Arm, Landing, Script, Statement, Test};
 use std::alloc::{AllocError, Global};
 
 /// A send of a script.
@@ -95,6 +96,16 @@ fn next_in(
         next.push(lines(alloc, head_in(&arm.body.statements), after, broken)?)?;
     }
     Ok(next)
+}
+
+/// The lines at which the script may be ready after this landing, by those that may follow each arm.
+pub(crate) fn lines_after(landing: Landing, next: &[Vec<u32>]) -> &[u32]
+    ensures { result.now ≡ lines_after (lines_in next.now) landing }
+{
+    match landing {
+        Landing::Arm(arm) if arm < next.len() => &next[arm],
+        _ => &[],
+    }
 }
 
 // Adds the sends among the statements, by the lines after them and those after a break.

@@ -1,6 +1,6 @@
 //! The first view of an outline that is not sound, and the first send that does not fit.
 
-ghost use Rattle.std.specs.Prelude.{◌≡◌, ◌↔◌, length, option_map, IfOk, IsTrue};
+ghost use Rattle.std.specs.Prelude.{◌≡◌, ◌↔◌, ◌<◌, false, IfOk, IfSome, IsTrue};
 ghost use Rattle.std.specs.List.{All};
 ghost use Rattle.pr_script.specs.Trees.{script_of};
 ghost use Rattle.pr_roles.specs.Starts.{CanStart};
@@ -8,13 +8,13 @@ ghost use Rattle.pr_verify.specs.Outlines.{KeepsToRole};
 ghost use Rattle.pr_verify.specs.Refusals.{class_number};
 ghost use Rattle.pr_verify.specs.inside.Asked.{IsAnswered, IsFirstMisfitIn, IsFirstUnsound, IsMisfitIn, outline_in, scenario_in};
 ghost use Rattle.pr_verify.specs.inside.Listing.{lines_in, place_of, AreSendsOf};
-ghost use Rattle.pr_verify.specs.inside.Lacking.{CanCompare, IsFirstWithoutAfter, lines_after};
-ghost use Rattle.pr_verify.specs.inside.Reviewing.{IsFirstUnarmed, earlier, earlier_from};
+ghost use Rattle.pr_verify.specs.inside.Lacking.{CanCompare, IsFirstWithoutAfter};
+ghost use Rattle.pr_verify.specs.inside.Reviewing.{IsBy, IsFirstUnarmed};
 
 use crate::answers::Questions;
 use crate::lacking::{first_lacking, lacking_at_start, least};
 use crate::others::lacking_by_others;
-use crate::places::{Spot, first_lines};
+use crate::places::{Spot, first_lines, lines_after};
 use pr_domain::permitted;
 use pr_roles::{Refusal, nexus_in};
 use pr_script::{Class, Landing, Script};
@@ -68,21 +68,12 @@ fn lacking_after(outline: &Outline, outcomes: &[(Landing, View)], next: &[Vec<u3
 {
     let mut first = None;
     for (landing, left) in outcomes {
-        if let Some(lines) = lines_after(*landing, next) {
-            first = least(first, first_lacking(outline, left, lines));
-        }
+        first = least(
+            first,
+            first_lacking(outline, left, lines_after(*landing, next)),
+        );
     }
     first
-}
-
-// The lines at which the script may be ready after this landing.
-fn lines_after(landing: Landing, next: &[Vec<u32>]) -> Option<&[u32]>
-    ensures { option_map (λ lines. lines.now) result ≡ lines_after (lines_in next.now) landing }
-{
-    match landing {
-        Landing::Arm(arm) => next.get(arm).map(|lines| lines.as_slice()),
-        Landing::NoArm(_) => None,
-    }
 }
 
 /// Whether the role permits the command of the send wherever it ends GOOD in the view; and how the send does not fit, if it does
@@ -112,41 +103,27 @@ pub(crate) fn review(
 
 /// Of the classes of replies without an arm that have this number or a greater one, the first.
 pub(crate) fn first_unarmed(outcomes: &[(Landing, View)], from: u32) -> Option<Class>
-    ensures { IsFirstUnarmed from (length outcomes.now) outcomes.now result }
+    ensures { IsFirstUnarmed from outcomes.now result }
 {
     let mut first = None;
     for (landing, _) in outcomes {
         if let Landing::NoArm(class) = landing {
-            first = earlier_from(from, first, *class);
+            if from <= number_of(*class) && !is_by(first, *class) {
+                first = Some(*class);
+            }
         }
     }
     first
 }
 
-// The one that comes first, where this class has the number or a greater one.
-fn earlier_from(from: u32, first: Option<Class>, class: Class) -> Option<Class>
-    ensures { result ≡ earlier_from from first class }
-{
-    if from <= number_of(class) {
-        Some(earlier(first, class))
-    } else {
-        first
-    }
-}
-
-// The one that comes first of two classes, where both are there.
-fn earlier(first: Option<Class>, class: Class) -> Class
-    ensures { result ≡ earlier first class }
+// Whether there is a class that comes no later than this one.
+fn is_by(first: Option<Class>, class: Class) -> bool
+    ensures by { IsTrue result → IsBy first class }
+    ensures later { result ≡ false → IfSome first (λ f. class_number class < class_number f) }
 {
     match first {
-        None => class,
-        Some(first) => {
-            if number_of(first) <= number_of(class) {
-                first
-            } else {
-                class
-            }
-        }
+        None => false,
+        Some(first) => number_of(first) <= number_of(class),
     }
 }
 

@@ -1,17 +1,18 @@
 //! The table of a host.
 
-ghost use Rattle.std.specs.Prelude.{◌≡◌, ◌<◌, ◌↔◌, ℕ, length, map, IsTrue, IfOk};
-ghost use Rattle.std.specs.List.{AllPairs, AllZip, Contains};
+ghost use Rattle.std.specs.Prelude.{◌≡◌, ◌<◌, ◌↔◌, ℕ, map, IsTrue, IfOk};
+ghost use Rattle.std.specs.List.{All, AllPairs, AllZip, Contains};
 ghost use Rattle.pr_script.specs.declared.landing.Class.{Class};
-ghost use Rattle.pr_script.specs.declared.landing.Landing.TheVariants.{Arm};
+ghost use Rattle.pr_script.specs.declared.landing.Landing.TheVariants.{Arm, NoArm};
 ghost use Rattle.pr_roles.specs.Scenarios.{scenario_of, task};
 ghost use Rattle.pr_verify.specs.Outlines.{OnScripted};
 ghost use Rattle.pr_verify.specs.Refusals.{class_number};
 ghost use Rattle.pr_roles.specs.Tasks.{IsScripted};
 ghost use Rattle.pr_verify.specs.Rooms.{IsMadeFor};
+ghost use Rattle.pr_verify.specs.Tables.{IsTable};
+ghost use Rattle.pr_views.specs.Tables.{table_of};
 ghost use Rattle.pr_verify.specs.inside.Asked.{IsAnswered, IsFirstMisfitIn, IsMisfitIn, IsRowIn};
-ghost use Rattle.pr_verify.specs.inside.Reviewing.{IsUnarmed};
-ghost use Rattle.pr_verify.specs.inside.Tabling.{IsCosted, IsInRange, IsJudgement, IsTableFor};
+ghost use Rattle.pr_verify.specs.inside.Tabling.{IsCosted, IsInRange, IsJudgement};
 
 use crate::answers::Questions;
 use crate::checking::check_cost;
@@ -31,7 +32,8 @@ pub(crate) fn judge_host(
 ) -> Result<(Table, Option<Refusal>), AllocError>
     requires { IsScripted (task (scenario_of scenario.now) host) }
     ensures host { IfOk result (λ r. r.0.outline.host ≡ host) }
-    ensures table { IfOk result (λ r. IsTableFor (scenario_of scenario.now) host r.0) }
+    ensures table { IfOk result (λ r. OnScripted (task (scenario_of scenario.now) host)
+        (λ script budget. IsTable (scenario_of scenario.now) script (table_of r.0))) }
     ensures made { IfOk result (λ r. IsMadeFor (scenario_of scenario.now) r.0.outline) }
     ensures judgement { IfOk result (λ r. IsJudgement (scenario_of scenario.now) host r.1) }
 {
@@ -139,7 +141,7 @@ fn lands_in(outcomes: &[(Landing, View)], landing: Landing) -> bool
 // How the replies end with which some outcome lands in no arm.
 fn unarmed(alloc: Global, outcomes: &[(Landing, View)]) -> Result<Vec<Class>, AllocError>
     ensures each { IfOk result (λ classes. (class : Class)
-        → Contains classes.items class ↔ IsUnarmed (length outcomes.now) outcomes.now class) }
+        → Contains classes.items class ↔ Contains (map (λ o. o.0) outcomes.now) (NoArm class)) }
     ensures rise { IfOk result (λ classes. AllPairs (λ c d. class_number c < class_number d)
         classes.items) }
 {
@@ -155,8 +157,7 @@ fn unarmed(alloc: Global, outcomes: &[(Landing, View)]) -> Result<Vec<Class>, Al
 
 // The senses have their fields in the ranges of their types, as each match knows. So no two have one number.
 fn are_in_range(outcomes: &[(Landing, View)])
-    ensures { (class : Class) → IsUnarmed (length outcomes.now) outcomes.now class
-        → IsInRange class }
+    ensures { All (λ o. (class : Class) → o.0 ≡ NoArm class → IsInRange class) outcomes.now }
 {
     for (landing, _) in outcomes {
         if let Landing::NoArm(class) = landing {

@@ -1,6 +1,6 @@
 -- What the views of an outline have and lack, by where it comes from.
-use Rattle.std.specs.Prelude.{◌≢◌, ℕ, ◌<◌, IsTrue, List, length, Option, Some, None}
-use Rattle.std.specs.List.{slice_get, All, Contains}
+use Rattle.std.specs.Prelude.{◌≢◌, ℕ, ◌<◌, IsTrue, List, [], slice_index_or, Option}
+use Rattle.std.specs.List.{All, Contains}
 use Rattle.pr_unit.specs.UnitStates.{UnitState, reset}
 use Rattle.pr_script.specs.declared.landing.Landing.{Landing}
 use Rattle.pr_script.specs.declared.landing.Landing.TheVariants.{Arm, NoArm}
@@ -54,25 +54,16 @@ IsFirstWithout o v lines =
     IsLeast (HasView (outline_of o) lines (view_of o.host v)) (LacksView (outline_of o) lines (view_of o.host v))
 
 -- the lines at which the script may be ready after a landing
-abbrev pub lines_after : List (List ℕ) → Landing → Option (List ℕ)
-lines_after next (Arm n) = slice_get next n
-lines_after next (NoArm class) = None
-
--- of these lines, if there are any
-abbrev pub HasNext : Outline → Option (List ℕ) → View → ℕ → Type 0
-HasNext o None w line = Unit {0}
-HasNext o (Some lines) w line = HasView o lines w line
-
-abbrev pub LacksNext : Outline → Option (List ℕ) → View → ℕ → Type 0
-LacksNext o None w line = ⊥
-LacksNext o (Some lines) w line = LacksView o lines w line
+abbrev pub lines_after : List (List ℕ) → Landing → List ℕ
+lines_after next (Arm n) = slice_index_or next n []
+lines_after next (NoArm class) = []
 
 -- the first of the lines after an outcome at which the view there has not what is possible in the outcome's
 abbrev pub IsFirstWithoutAfter : KeptOutline → List (List ℕ) → List (Landing × KeptView) → Option ℕ → Type 0
 IsFirstWithoutAfter o next outcomes =
-    IsLeastAmong (length outcomes) outcomes
-    (λ x. HasNext (outline_of o) (lines_after next x.0) (view_of o.host x.1))
-    (λ x. LacksNext (outline_of o) (lines_after next x.0) (view_of o.host x.1))
+    IsLeastAmong outcomes
+    (λ x. HasView (outline_of o) (lines_after next x.0) (view_of o.host x.1))
+    (λ x. LacksView (outline_of o) (lines_after next x.0) (view_of o.host x.1))
 
 -- ---- others
 
@@ -86,15 +77,8 @@ pub record IsOpen (s : Scenario) (v : View) : Type 0 where
 
 -- permitted commands of the first n of the others keep to the view
 abbrev pub IsClosedTo : ℕ → Scenario → View → Type 0
-IsClosedTo n s v = (g : ℕ) (u after : UnitState) → g < n → g ≢ v.scope.own → Shows v u → IsDone (role s g) g u after → Shows v after
+IsClosedTo n s v = (g : ℕ) → g < n → g ≢ v.scope.own → (u after : UnitState) → Shows v u → IsDone (role s g) g u after → Shows v after
 
 -- so do resets, where there are any
 abbrev pub IsClosedToResets : Scenario → View → Type 0
 IsClosedToResets s v = IsTrue (declares_resets s) → (u : UnitState) → Shows v u → Shows v (reset u)
-
--- a view as it is kept, whoever of its nexuses owns it
-abbrev pub IsClosedToResetsOfAny : Scenario → KeptView → Type 0
-IsClosedToResetsOfAny s v = (own : ℕ) → own < v.hosts → IsClosedToResets s (view_of own v)
-
-abbrev pub IsOpenOfAny : Scenario → KeptView → Type 0
-IsOpenOfAny s v = (own : ℕ) → own < v.hosts → IsOpen s (view_of own v)

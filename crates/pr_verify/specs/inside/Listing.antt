@@ -1,7 +1,7 @@
 -- The places of a script, as the code lists them.
 use Rattle.std.specs.Prelude.{◌≡◌, ℕ, ◌≤◌, ◌++◌, true, IsTrue, List, length, map, Vec}
 use Rattle.std.specs.Global.{Global}
-use Rattle.std.specs.List.{All, Contains}
+use Rattle.std.specs.List.{All}
 use Rattle.pr_cdb.specs.Ranges.{Fits}
 use Rattle.pr_script.specs.declared.limits.TheConstants.{MOST_ARMS}
 use Rattle.pr_script.specs.Grammar.{is_written, test_fits}
@@ -43,7 +43,3 @@ pub record IsPlaceWritten (keys : List ℕ) (p : Place) : Type 0 where
 -- so can each of the sends
 abbrev pub AreWritten : List ℕ → List Spot → Type 0
 AreWritten keys spots = All (λ p. IsPlaceWritten keys (place_of p)) spots
-
--- each of these lines is one of those
-abbrev pub AreAmong : List ℕ → List ℕ → Type 0
-AreAmong lines all = (n : ℕ) → Contains lines n → Contains all n

@@ -5,21 +5,14 @@ use Rattle.pr_script.specs.Costs.{cost_of_all}
 use Rattle.pr_script.specs.Scripts.{Stmts}
 use Rattle.pr_script.specs.declared.landing.Class.{Class}
 use Rattle.pr_script.specs.declared.landing.Class.TheVariants.{Sense as WithSense}
-use Rattle.pr_roles.specs.Scenarios.{Scenario, task}
+use Rattle.pr_roles.specs.Scenarios.{Scenario}
 use Rattle.pr_roles.specs.declared.refusal.Refusal.{Refusal}
-use Rattle.pr_views.specs.declared.table.Table.{Table}
-use Rattle.pr_verify.specs.Outlines.{OnScripted, IsCarried, HostSendsFit}
-use Rattle.pr_views.specs.Tables.{table_of}
-use Rattle.pr_verify.specs.Tables.{IsTable}
-use Rattle.pr_verify.specs.Verdicts.{IsReasonAgainst, HasReason, IsFirstReason}
+use Rattle.pr_verify.specs.Outlines.{IsCarried, HostSendsFit}
+use Rattle.pr_verify.specs.Verdicts.{IsReasonAgainst, HasReason}
 
 -- where it is a sense, its fields are in the ranges of their types
 abbrev pub IsInRange : Class → Type 0
 IsInRange class = (sense : Sense) → class ≡ WithSense sense → (sense.key < 256) × (sense.asc < 256) × (sense.ascq < 256)
-
--- the table of a host, if it has a script
-abbrev pub IsTableFor : Scenario → ℕ → Table → Type 0
-IsTableFor s h t = OnScripted (task s h) (λ script budget. IsTable s script (table_of t))
 
 -- ---- what is found of a host
 
@@ -32,8 +25,3 @@ IsCosted s h script budget (Some refusal) = IsReasonAgainst s h script budget re
 abbrev pub IsJudgement : Scenario → ℕ → Option Refusal → Type 0
 IsJudgement s h None = IsCarried s h × HostSendsFit s h
 IsJudgement s h (Some refusal) = HasReason s h refusal
-
--- so is it of each host before this one, or this is the first reason against one
-abbrev pub IsJudgementBefore : Scenario → ℕ → Option Refusal → Type 0
-IsJudgementBefore s n None = ((h : ℕ) → h < n → IsCarried s h) × ((h : ℕ) → h < n → HostSendsFit s h)
-IsJudgementBefore s n (Some refusal) = IsFirstReason s refusal

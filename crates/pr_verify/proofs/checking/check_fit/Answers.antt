@@ -1,4 +1,4 @@
-use Rattle.pr_verify.proofs.Common.{◌≡◌, ℕ, List, map, length, sym, ap, ◌∙◌, subst, rise_above, script_of, scenario_of, KeptView, outline_of, Spot, AreWritten}
+use Rattle.pr_verify.proofs.Common.{◌≡◌, ℕ, List, map, sym, ap, ◌∙◌, subst, rise_above, script_of, scenario_of, KeptView, outline_of, Spot, AreWritten}
 use Rattle.pr_verify.specs.inside.Reviewing.{IsFirstMisfit}
 use Rattle.pr_verify.proofs.lemmas.Reviewing.Findings.{spots_rise, spots_written, is_fitting, is_refusal}
 use Rattle.pr_verify.proofs.lemmas.Tabling.Rows.{lines_listed}
@@ -24,8 +24,8 @@ returns-in-None-clause-fitting c budget cost =
     let s = scenario_of c.args.scenario.now in
     let o = outline_of c.args.outline.now in
     let spots = c.in_ok-spots.spots.items in
-    let found = subst (λ xs. IsFirstMisfit s o (length xs) xs c.in_ok-first_misfit.field-0) c.deref.ensures.value c.in_ok-first_misfit.ensures in
-    is_fitting s (script_of c.args.script.now) o spots c.in_ok-spots.ensures.places budget cost (subst (IsFirstMisfit s o (length spots) spots) c.in-None.is found)
+    let found = subst (λ xs. IsFirstMisfit s o xs c.in_ok-first_misfit.field-0) c.deref.ensures.value c.in_ok-first_misfit.ensures in
+    is_fitting s (script_of c.args.script.now) o spots c.in_ok-spots.ensures.places budget cost (subst (IsFirstMisfit s o spots) c.in-None.is found)
 
 pub returns-clause-refusal : goal.returns-clause-refusal
 returns-clause-refusal c budget cost =
@@ -34,5 +34,5 @@ returns-clause-refusal c budget cost =
     let o = outline_of c.args.outline.now in
     let spots = c.in_ok-spots.spots.items in
     let places = c.in_ok-spots.ensures.places in
-    let found = subst (λ xs. IsFirstMisfit s o (length xs) xs c.in_ok-first_misfit.field-0) c.deref.ensures.value c.in_ok-first_misfit.ensures in
-    is_refusal s script o spots places budget c.in-Some.refusal (spots_rise script spots places s.keys c.requires.able.written) cost c.requires.sound (subst (IsFirstMisfit s o (length spots) spots) c.in-Some.is found)
+    let found = subst (λ xs. IsFirstMisfit s o xs c.in_ok-first_misfit.field-0) c.deref.ensures.value c.in_ok-first_misfit.ensures in
+    is_refusal s script o spots places budget c.in-Some.refusal cost c.requires.sound (subst (IsFirstMisfit s o spots) c.in-Some.is found)

@@ -1,6 +1,6 @@
 use Rattle.pr_verify.proofs.Common.{◌≡◌, ◌+◌, length, Vec, Global, sym, ap, ◌∙◌, subst, arith, scenario_of, are_counted}
 use Rattle.pr_views.specs.declared.table.Table.{Table}
-use Rattle.pr_verify.specs.inside.Tabling.{IsJudgementBefore}
+use Rattle.pr_verify.proofs.lemmas.Tabling.Judgements.{IsJudgementBefore}
 use Rattle.pr_verify.proofs.lemmas.Tabling.Judgements.{judged_next, judged_past, outlines_there, safe_all, reason_first, outlines_missing}
 use Rattle.pr_verify.proofs.lemmas.Tabling.Rows.{AreBeforeHost, one_table, no_table, are_tables}
 use Rattle.pr_verify.proofs.judging.judge.Goals.{then-has_script+in_ok-table+in_ok-push, else-has_script}

@@ -1,5 +1,5 @@
 use Rattle.pr_verify.proofs.Common.{scenario_of}
-use Rattle.pr_verify.specs.inside.Tabling.{IsJudgementBefore}
+use Rattle.pr_verify.proofs.lemmas.Tabling.Judgements.{IsJudgementBefore}
 use Rattle.pr_verify.proofs.lemmas.Tabling.Rows.{AreBeforeHost}
 use Rattle.pr_verify.proofs.judging.judge.Given as goal
 

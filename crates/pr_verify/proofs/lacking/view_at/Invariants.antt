@@ -1,6 +1,5 @@
-use Rattle.pr_verify.proofs.Common.{view_of}
-use Rattle.pr_verify.proofs.lemmas.Outlines.Lookups.{AreOther}
+use Rattle.pr_verify.proofs.Common.{◌≢◌, AllWithin}
 use Rattle.pr_verify.proofs.lacking.view_at.Given as goal
 
 abbrev pub invariant-loop-at : goal.invariant-loop-at
-invariant-loop-at l = AreOther (view_of l.outline.host) l.at-items l.line l.at-index
+invariant-loop-at l = AllWithin (λ e. e.0 ≢ l.line) l.at-items 0 l.at-index

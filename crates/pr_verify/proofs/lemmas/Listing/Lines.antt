@@ -6,7 +6,7 @@ use Rattle.pr_script.specs.Grammar.{lines_of_all, lines_of_arms, statements_fit,
 use Rattle.pr_verify.specs.declared.head.Head.{Head}
 use Rattle.pr_verify.specs.declared.head.Head.TheVariants.{Line, Falls, Breaks, Stops}
 use Rattle.pr_verify.specs.Places.{then_head, lines_of}
-use Rattle.pr_verify.specs.inside.Listing.{AreAmong}
+use Rattle.pr_verify.proofs.lemmas.Places.Successors.{IsWithin}
 use Rattle.pr_verify.proofs.lemmas.Listing.WrittenPlaces.{first_or_rest, nothing_in}
 
 abbrev pub line_of : Place → ℕ
@@ -91,8 +91,8 @@ mutual
 
 -- ---- where they lead
 
-leads : (h : Head) (after broken all : List ℕ) → ((n : ℕ) → h ≡ Line n → Contains all n) → AreAmong after all → AreAmong broken all
-    → AreAmong (lines_of h after broken) all
+leads : (h : Head) (after broken all : List ℕ) → ((n : ℕ) → h ≡ Line n → Contains all n) → IsWithin after all → IsWithin broken all
+    → IsWithin (lines_of h after broken) all
 leads (Line m) after broken all line then_these or_those n there = elim (first_or_rest m [] n there) [
   | inl same ↦ line n (ap Line same)
   | inr never ↦ nothing_in n never
@@ -101,36 +101,36 @@ leads Falls after broken all line then_these or_those n there = then_these n the
 leads Breaks after broken all line then_these or_those n there = or_those n there
 leads Stops after broken all line then_these or_those n there = nothing_in n there
 
-first_among : (b : Stmts) (after broken all : List ℕ) → AreAmong (lines_of_all b) all → AreAmong after all → AreAmong broken all
-    → AreAmong (first_of b after broken) all
+first_among : (b : Stmts) (after broken all : List ℕ) → IsWithin (lines_of_all b) all → IsWithin after all → IsWithin broken all
+    → IsWithin (first_of b after broken) all
 first_among b after broken all mine = leads (head_of_all b) after broken all (λ n is. mine n (head_in_statements b n is))
 
-both_among : (ls ms all : List ℕ) → AreAmong ls all → AreAmong ms all → AreAmong (ls ++ ms) all
+both_among : (ls ms all : List ℕ) → IsWithin ls all → IsWithin ms all → IsWithin (ls ++ ms) all
 both_among ls ms all one two n there = elim (Contains-append_cases ls ms n there) [ inl here ↦ one n here | inr later ↦ two n later ]
 
-round_among : (k : ℕ) (b : Stmts) (past all : List ℕ) → AreAmong (lines_of_all b) all → AreAmong past all → AreAmong (round k b past) all
+round_among : (k : ℕ) (b : Stmts) (past all : List ℕ) → IsWithin (lines_of_all b) all → IsWithin past all → IsWithin (round k b past) all
 round_among (suc (suc k)) b past all mine out = both_among (first_of b past past) past all (first_among b past past all mine out out) out
 round_among _ b past all mine out = out
 
-next_among : (a : Arms) (after broken all : List ℕ) → AreAmong (lines_of_arms a) all → AreAmong after all → AreAmong broken all
-    → (ls : List ℕ) → Contains (next_of a after broken) ls → AreAmong ls all
+next_among : (a : Arms) (after broken all : List ℕ) → IsWithin (lines_of_arms a) all → IsWithin after all → IsWithin broken all
+    → (ls : List ℕ) → Contains (next_of a after broken) ls → IsWithin ls all
 next_among no_arm after broken all mine then_these or_those ls there = nothing_in ls there
 next_among (arm t body rest) after broken all mine then_these or_those ls there =
     elim (first_or_rest (first_of body after broken) (next_of rest after broken) ls there) [
-      | inl same ↦ subst (λ ms. AreAmong ms all) same
+      | inl same ↦ subst (λ ms. IsWithin ms all) same
           (first_among body after broken all (λ n is. mine n (Contains-append_left (lines_of_all body) (lines_of_arms rest) n is)) then_these or_those)
       | inr later ↦ next_among rest after broken all (λ n is. mine n (Contains-append_right (lines_of_all body) (lines_of_arms rest) n is)) then_these or_those ls later
     ]
 
 -- each arm of the place leads to some of these lines
 abbrev pub LeadsTo : List ℕ → Place → Type 0
-LeadsTo all p = (ls : List ℕ) → Contains p.next ls → AreAmong ls all
+LeadsTo all p = (ls : List ℕ) → Contains p.next ls → IsWithin ls all
 
 mutual
-  from_statement : (s : Stmt) (after broken all : List ℕ) → AreAmong (grammar.lines_of s) all → AreAmong after all → AreAmong broken all
+  from_statement : (s : Stmt) (after broken all : List ℕ) → IsWithin (grammar.lines_of s) all → IsWithin after all → IsWithin broken all
       → (p : Place) → Contains (places_in s after broken) p → LeadsTo all p
   from_statement (sends m c a) after broken all mine then_these or_those p there =
-      let arms : AreAmong (lines_of_arms a) all = λ n is. mine n (Contains-append_right (m ∷ []) (lines_of_arms a) n is) in
+      let arms : IsWithin (lines_of_arms a) all = λ n is. mine n (Contains-append_right (m ∷ []) (lines_of_arms a) n is) in
       elim (first_or_rest (place m c a after broken) (places_of_arms a after broken) p there) [
         | inl same ↦ subst (LeadsTo all) same (next_among a after broken all arms then_these or_those)
         | inr among ↦ from_arms a after broken all arms then_these or_those p among
@@ -139,18 +139,18 @@ mutual
       from_statements b (round k b after) after all mine (round_among k b after all mine then_these) then_these p there
   from_statement _ after broken all mine then_these or_those p there = nothing_in p there
 
-  from_statements : (b : Stmts) (after broken all : List ℕ) → AreAmong (lines_of_all b) all → AreAmong after all → AreAmong broken all
+  from_statements : (b : Stmts) (after broken all : List ℕ) → IsWithin (lines_of_all b) all → IsWithin after all → IsWithin broken all
       → (p : Place) → Contains (places b after broken) p → LeadsTo all p
   from_statements none after broken all mine then_these or_those p there = nothing_in p there
   from_statements (more s rest) after broken all mine then_these or_those p there =
-      let first : AreAmong (grammar.lines_of s) all = λ n is. mine n (Contains-append_left (grammar.lines_of s) (lines_of_all rest) n is) in
-      let others : AreAmong (lines_of_all rest) all = λ n is. mine n (Contains-append_right (grammar.lines_of s) (lines_of_all rest) n is) in
+      let first : IsWithin (grammar.lines_of s) all = λ n is. mine n (Contains-append_left (grammar.lines_of s) (lines_of_all rest) n is) in
+      let others : IsWithin (lines_of_all rest) all = λ n is. mine n (Contains-append_right (grammar.lines_of s) (lines_of_all rest) n is) in
       elim (Contains-append_cases (places_in s (first_of rest after broken) broken) (places rest after broken) p there) [
         | inl here ↦ from_statement s (first_of rest after broken) broken all first (first_among rest after broken all others then_these or_those) or_those p here
         | inr later ↦ from_statements rest after broken all others then_these or_those p later
       ]
 
-  from_arms : (a : Arms) (after broken all : List ℕ) → AreAmong (lines_of_arms a) all → AreAmong after all → AreAmong broken all
+  from_arms : (a : Arms) (after broken all : List ℕ) → IsWithin (lines_of_arms a) all → IsWithin after all → IsWithin broken all
       → (p : Place) → Contains (places_of_arms a after broken) p → LeadsTo all p
   from_arms no_arm after broken all mine then_these or_those p there = nothing_in p there
   from_arms (arm t body rest) after broken all mine then_these or_those p there =
@@ -165,5 +165,5 @@ places_lead b p there =
     subst (λ all. LeadsTo all p) (sym (lines_of-places_of b)) (from_statements b [] [] (lines_of_all b) (λ n is. is) (λ n is. nothing_in n is) (λ n is. nothing_in n is) p there)
 
 -- So do the first lines.
-pub first_lines_lead : (b : Stmts) → AreAmong (first_lines b) (map line_of (places_of b))
-first_lines_lead b = subst (AreAmong (first_lines b)) (sym (lines_of-places_of b)) (first_among b [] [] (lines_of_all b) (λ n is. is) (λ n is. nothing_in n is) (λ n is. nothing_in n is))
+pub first_lines_lead : (b : Stmts) → IsWithin (first_lines b) (map line_of (places_of b))
+first_lines_lead b = subst (IsWithin (first_lines b)) (sym (lines_of-places_of b)) (first_among b [] [] (lines_of_all b) (λ n is. is) (λ n is. nothing_in n is) (λ n is. nothing_in n is))

@@ -1,5 +1,5 @@
 -- Lines that rise: each entry has a line of its own.
-use Rattle.pr_verify.proofs.Common.{◌≡◌, ℕ, zero, suc, ◌<◌, ◌≤◌, true, ◌⊎◌, List, [], ◌∷◌, map, length, nat_lt, slice_index_or, Some, sym, refl, ap, ◌∙◌, subst, inl, inr, arith, ltb-true, cases_lt, and_parts, cases_order, cases_eq, length-map, get_or_default, get_or-map, rise_above, View, view_at}
+use Rattle.pr_verify.proofs.Common.{◌≡◌, ℕ, zero, suc, ◌<◌, ◌≤◌, true, ◌⊎◌, List, [], ◌∷◌, map, length, nat_lt, slice_index_or, Some, AllWithin, Contains, sym, refl, ap, ◌∙◌, subst, inl, inr, arith, ltb-true, cases_lt, and_parts, cases_order, cases_eq, length-map, get_or_default, get_or-map, rise_above, View, view_at}
 use Rattle.pr_verify.proofs.lemmas.Outlines.Lookups.{entries, view_at_found}
 
 above : (n : ℕ) (ls : List ℕ) (j : ℕ) → rise_above n ls ≡ true → j < length ls → n < slice_index_or ls j 0
@@ -27,7 +27,7 @@ lines_rise line n xs i j d e rise before small =
     omega arith
 
 -- an element with a smaller line comes before
-pub comes_before : {X : Type 0} (line : X → ℕ) (n : ℕ) (xs : List X) (i j : ℕ) (d e : X) → rise_above n (map line xs) ≡ true → i < length xs
+comes_before : {X : Type 0} (line : X → ℕ) (n : ℕ) (xs : List X) (i j : ℕ) (d e : X) → rise_above n (map line xs) ≡ true → i < length xs
     → line (slice_index_or xs i d) < line (slice_index_or xs j e) → i < j
 comes_before line n xs i j d e rise small less = at (cases_lt i j)
   where
@@ -41,11 +41,19 @@ comes_before line n xs i j d e rise small less = at (cases_lt i j)
             absurd (omega arith)
         last (inr other) = let more = lines_rise line n xs j i e d rise (omega (arith, cases_order i j)) small in absurd (omega arith)
 
+-- what holds of the elements before one holds of each with a smaller line
+pub holds_earlier : {X : Type 0} (line : X → ℕ) (P : X → Type 0) (xs : List X) (n : ℕ) (x : X) → rise_above 0 (map line xs) ≡ true → x ≡ slice_index_or xs n x → AllWithin P xs 0 n
+    → (e : X) → Contains xs e → line e < line x → P e
+holds_earlier line P xs n x rise read all e there less =
+    let first = ap line there.2 in
+    let second = ap line read in
+    subst P there.2 (all there.0 e (omega arith) (comes_before line 0 xs there.0 n e x rise there.1 (omega arith)))
+
 -- the view at the line of an entry is the entry's
 pub view_here : {A : Type 0} (f : A → View) (n : ℕ) (xs : List (ℕ × A)) (i : ℕ) (d : ℕ × A) → rise_above n (map (λ e. e.0) xs) ≡ true → i < length xs
     → view_at (entries f xs) (slice_index_or xs i d).0 ≡ Some (f (slice_index_or xs i d).1)
 view_here f n xs i d rise small =
-    view_at_found f xs (slice_index_or xs i d).0 i d small (λ k e below is. let less = lines_rise (λ x. x.0) n xs k i e d rise below small in omega arith) refl
+    view_at_found f xs (slice_index_or xs i d).0 i d small (λ k e low below is. let less = lines_rise (λ x. x.0) n xs k i e d rise below small in omega arith) refl
 
 -- of entries whose lines are those of other elements
 module _ {A X : Type 0} (line : X → ℕ) (xs : List (ℕ × A)) (ys : List X) (same : map (λ e. e.0) xs ≡ map line ys) where

@@ -1,10 +1,9 @@
 -- What the views lack of the allowed starts, and the scope of the views of an outline.
-use Rattle.pr_verify.proofs.Common.{◌≡◌, ℕ, ◌<◌, Bool, true, false, List, [], ◌∷◌, map, length, take, if◌then◌else◌, ◌==◌, slice_index_or, Some, None, All, Contains, Option, sym, refl, ap, ◌∙◌, subst, Stmts, Scenario, IsAllowedStart, Scope, Item, Registration, Reservation, Attentions, scope_of, view_of, AreAlike, View, IsPossible, Fits, Within, KeptView, IsOfStart, Outline, view_at, scope_in, StartsAt, first_lines, outline_of, IsMadeFor, KeptOutline, HasAll, Lacks, IsFirstLacking, HasView, IsLeast}
+use Rattle.pr_verify.proofs.Common.{◌≡◌, ℕ, ◌<◌, Bool, true, false, List, [], ◌∷◌, map, length, take, if◌then◌else◌, ◌==◌, slice_index_or, Some, None, All, Contains, Option, sym, refl, ap, ◌∙◌, subst, Stmts, Scenario, IsAllowedStart, Scope, Item, Registration, Reservation, Attentions, scope_of, view_of, AreAlike, View, IsPossible, Fits, Within, KeptView, IsOfStart, Outline, view_at, scope_in, StartsAt, first_lines, outline_of, IsMadeFor, KeptOutline, IsMadeAs, HasAll, Lacks, IsFirstLacking, HasView, IsLeast}
 use Rattle.std.proofs.lemmas.List.Elements.{All-head, All-tail, All-weaker, All-take}
 use Rattle.pr_roles.specs.Starts.{CanStart}
 use Rattle.pr_views.proofs.lemmas.Views.Values.{fits}
 use Rattle.pr_verify.specs.inside.Lacking.{CanCompare, LacksView}
-use Rattle.pr_verify.specs.inside.Reviewing.{IsMadeAs}
 use Rattle.pr_verify.proofs.lemmas.Least.FirstLines.{least_as}
 use Rattle.pr_verify.proofs.lemmas.LeastOutlines.Possibilities.{IsExact, lacks_from_missing, shown_by_within}
 
@@ -51,21 +50,19 @@ alike s o v made keys hosts =
 pub entry_made : (s : Scenario) (o : KeptOutline) (xs : List (ℕ × KeptView)) (i : ℕ) (x : ℕ × KeptView) → xs ≡ o.views.items → IsMadeFor s o → i < length xs → x ≡ slice_index_or xs i x
     → IsMadeAs s x.1
 entry_made s o xs i x same made small read =
-    let at = subst (λ (e : ℕ × KeptView). (e.1.keys.items ≡ s.keys) × (e.1.hosts ≡ length s.nexuses)) (ap (λ ys. slice_index_or ys i x) (sym same) ∙ sym read)
-    (made i x (subst (λ ys. i < length ys) same small)) in
-    record { keys = at.0; hosts = at.1 }
+    subst (λ (e : ℕ × KeptView). IsMadeAs s e.1) (ap (λ ys. slice_index_or ys i x) (sym same) ∙ sym read) (made i x (subst (λ ys. i < length ys) same small))
 
 -- it can be compared with those before it
 pub compared_before : (s : Scenario) (o : KeptOutline) (xs : List (ℕ × KeptView)) (i : ℕ) (v : KeptView) → xs ≡ o.views.items → IsMadeFor s o → IsMadeAs s v → CanCompare (take i xs) v
 compared_before s o xs i v same made is =
-    All-take (λ e. AreAlike v e.1) i xs (subst (All (λ e. AreAlike v e.1)) (sym same) (alike s o v made is.keys is.hosts))
+    All-take (λ e. AreAlike v e.1) i xs (subst (All (λ e. AreAlike v e.1)) (sym same) (alike s o v made is.0 is.1))
 
 -- views that are alike to one of the scenario can be compared with each
 pub each_compared : {X : Type 0} (s : Scenario) (o : KeptOutline) (v : KeptView) (xs : List (X × KeptView)) → IsMadeFor s o → IsMadeAs s v → All (λ x. AreAlike v x.1) xs
     → All (λ x. CanCompare o.views.items x.1) xs
 each_compared s o v xs made is =
     All-weaker (λ x. AreAlike v x.1) (λ x. CanCompare o.views.items x.1)
-    (λ x same. alike s o x.1 made (sym same.keys ∙ is.keys) (sym same.hosts ∙ is.hosts)) xs
+    (λ x same. alike s o x.1 made (sym same.keys ∙ is.0) (sym same.hosts ∙ is.1)) xs
 
 -- what is possible in a view is so whoever owns it
 pub owned : (own other : ℕ) (v : KeptView) (i : Item) → IsPossible (view_of own v) i → IsPossible (view_of other v) i

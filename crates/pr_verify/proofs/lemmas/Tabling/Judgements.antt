@@ -1,14 +1,15 @@
 -- What is found of a host, by its budget and its table; and of one host after another.
-use Rattle.pr_verify.proofs.Common.{◌≡◌, ℕ, ◌+◌, ◌≤◌, true, false, List, map, length, IfErr, Some, None, Ok, Err, Option, Result, sym, refl, ap, ◌∙◌, subst, cost_of_all, rise_above, Stmts, script_of, Task, Scripted, task, Scenario, IsSafe, IsLeastSound, Outline, HasOutline, OnScripted, HaveOutlines, SendsFit, places_of, IsScripted, Refusal, Spot, place_of, below_more}
+use Rattle.pr_verify.proofs.Common.{◌≡◌, ℕ, ◌+◌, ◌<◌, ◌≤◌, true, false, List, map, length, IfErr, Some, None, Ok, Err, Option, Result, sym, refl, ap, ◌∙◌, subst, cost_of_all, Stmts, script_of, Task, Scripted, task, Scenario, IsSafe, IsLeastSound, Outline, HasOutline, OnScripted, HaveOutlines, SendsFit, places_of, IsScripted, Refusal, Spot, place_of, below_more}
 use Rattle.std.specs.Option.{option_or, IfNone, IfSome}
 use Rattle.std.specs.Result.{OnOk, result_err}
 use Rattle.pr_roles.specs.Scenarios.{Planned}
 use Rattle.pr_script.specs.declared.script.Script.{Script}
 use Rattle.pr_verify.specs.Laws.{OutlinesMakeSafe}
 use Rattle.pr_roles.specs.Tasks.{has_script}
+use Rattle.pr_verify.specs.Outlines.{IsCarried, HostSendsFit}
 use Rattle.pr_verify.specs.Verdicts.{IsFirstReason}
 use Rattle.pr_verify.specs.inside.Reviewing.{IsReason, IsFirstMisfit, IsOver}
-use Rattle.pr_verify.specs.inside.Tabling.{IsCosted, IsJudgement, IsJudgementBefore}
+use Rattle.pr_verify.specs.inside.Tabling.{IsCosted, IsJudgement}
 use Rattle.pr_verify.proofs.lemmas.Outlines.Checks.{has_outline}
 use Rattle.pr_verify.proofs.lemmas.Reviewing.Findings.{is_fitting, is_refusal}
 use Rattle.pr_verify.proofs.lemmas.Rooms.Scripts.{on_script}
@@ -34,17 +35,22 @@ costed s h script budget (Err refusal) over same within past =
 
 -- what is found of a host: the budget comes first
 module _ (s : Scenario) (h : ℕ) (script : Stmts) (budget : ℕ) (is : task s h ≡ Some (Scripted script budget)) (o : Outline) (host : o.host ≡ h) (least : IsLeastSound s script o) (fields : SendsFit script) (spots : List Spot)
-    (places : map place_of spots ≡ places_of script) (rise : rise_above 0 (map (λ (p : Spot). p.line) spots) ≡ true) where
-  pub judgement : (over misfit : Option Refusal) → IsCosted s h script budget over → IsFirstMisfit s o (length spots) spots misfit → IsJudgement s h (option_or over misfit)
+    (places : map place_of spots ≡ places_of script) where
+  pub judgement : (over misfit : Option Refusal) → IsCosted s h script budget over → IsFirstMisfit s o spots misfit → IsJudgement s h (option_or over misfit)
   judgement (Some refusal) misfit over found = record { script = script; budget = budget; is = is; reason = over }
   judgement None None within fit = (
     on_script (task s h) script budget (HasOutline s h) is (has_outline s h script budget host least.sound (is_fitting s script o spots places budget within fit)),
     on_script (task s h) script budget (λ (b : Stmts) (n : ℕ). SendsFit b) is fields,
   )
   judgement None (Some refusal) within one =
-      has_reason s h script budget is o host least refusal (is_refusal s script o spots places budget refusal rise within least.sound one) (λ memory. subst (IsReason s o (place_of one.spot)) memory one.reason)
+      has_reason s h script budget is o host least refusal (is_refusal s script o spots places budget refusal within least.sound one) (λ memory. subst (IsReason s o (place_of one.spot)) memory one.reason)
 
 -- ---- of one host after another
+
+-- so is it of each host before this one, or this is the first reason against one
+abbrev pub IsJudgementBefore : Scenario → ℕ → Option Refusal → Type 0
+IsJudgementBefore s n None = ((h : ℕ) → h < n → IsCarried s h) × ((h : ℕ) → h < n → HostSendsFit s h)
+IsJudgementBefore s n (Some refusal) = IsFirstReason s refusal
 
 module _ (s : Scenario) where
   -- of one more

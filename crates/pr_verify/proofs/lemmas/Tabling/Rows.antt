@@ -1,10 +1,9 @@
 -- The row of a place, by the outcomes of its command.
-use Rattle.pr_verify.proofs.Common.{◌≡◌, ℕ, ◌+◌, ◌<◌, ◌≤◌, Bool, true, false, ◌⊎◌, ◌↔◌, List, [], ◌∷◌, ◌++◌, map, length, get_or, take, IsTrue, slice_index_or, Some, None, All, Contains, Option, AllPairs, sym, refl, ap, ◌∙◌, subst, inl, inr, arith, AllZip, cases_lt, All-map, Contains-append_left, position-Some, map-map, Stmts, matches, refusals_of, Task, Scripted, task, Scenario, view_of, View, KeptView, IsLanding, Outcome, IsExpected, AreOutcomes, Class, Landing, NoArm, Arm, Outline, IsListed, KeepsToRole, OnScripted, Place, places_of, class_number, outline_of, IsMadeFor, IsScripted, IsRow, KeptOutline, Spot, place_of, IsUnarmed, IsInRange}
+use Rattle.pr_verify.proofs.Common.{◌≡◌, ℕ, ◌+◌, ◌<◌, ◌≤◌, Bool, true, false, ◌⊎◌, ◌↔◌, List, [], ◌∷◌, ◌++◌, map, length, get_or, IsTrue, Some, All, Contains, Option, AllPairs, sym, refl, ap, ◌∙◌, subst, inl, inr, arith, AllZip, cases_lt, All-map, Contains-append_left, position-Some, map-map, Stmts, matches, refusals_of, Task, Scripted, task, Scenario, view_of, View, KeptView, AreOutcomes, Class, Landing, NoArm, Arm, Outline, IsListed, KeepsToRole, OnScripted, Place, places_of, class_number, outline_of, IsMadeFor, IsScripted, IsRow, KeptOutline, Spot, place_of, IsInRange}
 use Rattle.std.specs.List.{filter, range_with_len}
-use Rattle.std.proofs.lemmas.List.{map-append, map-id, take_more, append-nil}
+use Rattle.std.proofs.lemmas.List.{map-append, map-id, append-nil}
 use Rattle.std.proofs.lemmas.List.FromFn.{map-range_with_len_more}
 use Rattle.std.proofs.lemmas.List.Elements.{All-push, filter-append, Contains-push, Contains-push_cases, Contains-get_or}
-use Rattle.std.proofs.SliceLists.{all_zipped_more}
 use Rattle.std.proofs.lemmas.List.Quantifiers.{all_pairs_push}
 use Rattle.pr_script.specs.declared.script.Test.TheVariants as test
 use Rattle.pr_script.specs.declared.landing.Class.TheVariants.{Sense}
@@ -13,9 +12,7 @@ use Rattle.pr_roles.specs.Tasks.{has_script}
 use Rattle.pr_verify.specs.Tables.{TakesArm, IsTable, AreTables}
 use Rattle.pr_views.specs.declared.table.Table.{Table as KeptTable}
 use Rattle.pr_verify.proofs.lemmas.Reviewing.Findings.{place_lines}
-use Rattle.pr_verify.proofs.lemmas.Reviewing.FittingPlaces.{IsHere, shown_here, shown_there, answer_own, answer_host, lacks_arm, lacking_listed}
-use Rattle.pr_interference.proofs.lemmas.Interfering.Additions.{among_back}
-use Rattle.pr_verify.proofs.lemmas.Rooms.MappedLists.{mapped, unmapped}
+use Rattle.pr_verify.proofs.lemmas.Reviewing.FittingPlaces.{IsHere, landing_listed, lands_so, lacks_arm, lacking_listed}
 
 -- ---- lists that rise
 
@@ -89,15 +86,6 @@ all_before P from cs each none class = (λ there. ((each class).0 there).1, λ i
     at is (inl less) = (each class).1 (less, is)
     at is (inr more) = absurd (none class is more)
 
--- one more in range
-pub in_range_more : (xs : List (Landing × KeptView)) (n : ℕ) (x : Landing × KeptView) → n < length xs → x ≡ slice_index_or xs n x → ((class : Class) → x.0 ≡ NoArm class → IsInRange class)
-    → ((class : Class) → IsUnarmed n xs class → IsInRange class) → (class : Class) → IsUnarmed (n + 1) xs class → IsInRange class
-in_range_more xs n x small read here before class one = at (among_back (λ o. o.0 ≡ NoArm class) xs n x small read one)
-  where
-    at : IsUnarmed n xs class ⊎ (x.0 ≡ NoArm class) → IsInRange class
-    at (inl other) = before class other
-    at (inr is) = here class is
-
 -- a class is known by its number
 pub class_alone : (a b : Class) → IsInRange a → IsInRange b → class_number a ≡ class_number b → a ≡ b
 class_alone (Sense s) (Sense t) one two same =
@@ -113,43 +101,19 @@ class_alone a b one two same = grind arith
 
 module _ (s : Scenario) (o : Outline) (p : Place) (v : View) (here : IsHere o p v) (own : ℕ) (xs : List (Landing × KeptView))
     (are : AreOutcomes v (refusals_of s o.host) p.command p.tests (map (λ x. (x.0, view_of own x.1)) xs)) where
-  landing_listed : (outcome : Outcome) (l : Landing) → Contains (map (λ x. (x.0, view_of own x.1)) xs) outcome → outcome.0 ≡ l → Contains (map (λ x. x.0) xs) l
-  landing_listed outcome l listed is =
-      let one = unmapped (λ x. (x.0, view_of own x.1)) xs outcome listed in
-      subst (Contains (map (λ x. x.0) xs)) (ap (λ (y : Outcome). y.0) one.2 ∙ is) (mapped (λ x. x.0) xs one.0 one.1)
-
   arm_listed : (n : ℕ) → TakesArm s o p n → Contains (map (λ x. x.0) xs) (Arm n)
-  arm_listed n takes = at one.outcome.0 refl one.landing
-    where
-      one : IsExpected (map (λ x. (x.0, view_of own x.1)) xs) p.tests takes.reply takes.after
-      one = are.cover takes.from takes.reply takes.after (shown_here s o p v here takes.from takes.shown) (answer_own s o p v here takes.from takes.reply takes.after takes.answer)
-
-      at : (l : Landing) → one.outcome.0 ≡ l → IsLanding p.tests takes.reply l → Contains (map (λ x. x.0) xs) (Arm n)
-      at (Arm m) is first =
-          let same : Some m ≡ Some n = sym first ∙ takes.taken in
-          let e : m ≡ n = cc in
-          landing_listed one.outcome (Arm n) one.listed (is ∙ ap (λ k. Arm k) e)
-      at (NoArm class) is ends = let bad : None ≡ Some n = sym ends.0 ∙ takes.taken in cc
+  arm_listed n takes =
+      landing_listed s o p v here own xs are (Arm n) (record { from = takes.from; shown = takes.shown; reply = takes.reply; after = takes.after; answer = takes.answer; landing = takes.taken })
 
   takes_arm : (n : ℕ) → Contains (map (λ x. x.0) xs) (Arm n) → TakesArm s o p n
   takes_arm n listed =
-      let one = unmapped (λ (x : Landing × KeptView). x.0) xs (Arm n) listed in
-      let there = mapped (λ (x : Landing × KeptView). (x.0, view_of own x.1)) xs one.0 one.1 in
-      let come = are.come (one.0.0, view_of own one.0.1) there in
-      let lands = are.only (one.0.0, view_of own one.0.1) come.0 there come.1 in
-      record {
-        from = lands.from;
-        shown = shown_there s o p v here lands.from lands.shown;
-        reply = lands.reply;
-        after = lands.after;
-        answer = answer_host s o p v here lands.from lands.reply lands.after lands.answer;
-        taken = subst (IsLanding p.tests lands.reply) one.2 lands.landing;
-      }
+      let lands = lands_so s o p v here own xs are (Arm n) listed in
+      record { from = lands.from; shown = lands.shown; reply = lands.reply; after = lands.after; answer = lands.answer; taken = lands.landing }
 
   small_arm : (n : ℕ) → TakesArm s o p n → n < length p.tests
   small_arm n takes = (position-Some (λ t. matches t takes.reply) p.tests n test.Good takes.taken).0
 
-  pub row_is : (r : Row) → r.command ≡ p.command → r.tests ≡ p.tests → IsTrue r.permitted ↔ KeepsToRole s o p → AreBelow (λ n. Contains (map (λ x. x.0) xs) (Arm n)) (length p.tests) r.arms → AllPairs (λ m n. m < n) r.arms → ((class : Class) → Contains r.unarmed class ↔ IsUnarmed (length xs) xs class)
+  pub row_is : (r : Row) → r.command ≡ p.command → r.tests ≡ p.tests → IsTrue r.permitted ↔ KeepsToRole s o p → AreBelow (λ n. Contains (map (λ x. x.0) xs) (Arm n)) (length p.tests) r.arms → AllPairs (λ m n. m < n) r.arms → ((class : Class) → Contains r.unarmed class ↔ Contains (map (λ x. x.0) xs) (NoArm class))
       → AllPairs (λ c d. class_number c < class_number d) r.unarmed → IsRow s o p r
   row_is r command tests permitted arms arms_rise unarmed unarmed_rise = record {
     command = command;
@@ -162,11 +126,6 @@ module _ (s : Scenario) (o : Outline) (p : Place) (v : View) (here : IsHere o p 
   }
 
 -- ---- rows, one after another
-
-pub zip_more : {A B : Type 0} (R : A → B → Type 0) (xs : List A) (ys : List B) (i : ℕ) (x : A) (y : B) → i < length xs → x ≡ get_or xs i x → AllZip R (take i xs) ys → R x y
-    → AllZip R (take (i + 1) xs) (ys ++ y ∷ [])
-zip_more R xs ys i x y small read all one =
-    subst (λ l. AllZip R l (ys ++ y ∷ [])) (ap (λ z. take i xs ++ z ∷ []) read ∙ sym (take_more xs i x small)) (all_zipped_more R (take i xs) ys x y all one)
 
 pub zip_map : {A B C D : Type 0} (R : C → D → Type 0) (f : A → C) (g : B → D) (xs : List A) (ys : List B) → AllZip (λ x y. R (f x) (g y)) xs ys → AllZip R (map f xs) (map g ys)
 zip_map R f g [] [] all = tt

@@ -1,7 +1,6 @@
-use Rattle.pr_verify.proofs.Common.{◌<◌, ◌≤◌, map, length, take, slice_index_or, Contains, ap, ◌∙◌, subst, arith, scenario_of, view_of, IsClosed}
+use Rattle.pr_verify.proofs.Common.{◌<◌, ◌≤◌, map, length, take, slice_index_or, Contains, ap, ◌∙◌, subst, arith, at_read, AllWithin-more, scenario_of, view_of, IsClosed}
 use Rattle.pr_verify.proofs.lemmas.Reviewing.Starts.{scoped, entry_made, compared_before}
 use Rattle.pr_verify.proofs.lemmas.Least.Disturbances.{all_closed, open_first, closed_as}
-use Rattle.pr_verify.proofs.lemmas.Least.FirstLines.{each_more}
 use Rattle.pr_verify.proofs.others.lacking_by_others.Goals.{else-not-known-via-then-not-known+in_ok-is_closed+else-not-branch, else-not-known-via-else-not-known}
 use Rattle.pr_verify.proofs.others.lacking_by_others.Goals as goal
 
@@ -39,13 +38,13 @@ loop-i-preserved c =
     let scopes = scoped s o c.args.asked.now.made in
     let small = subst (λ ys. n < length ys) c.deref-entry-items.ensures.value c.loop-i-test.true in
     let read = c.entry-item.is ∙ ap (λ ys. slice_index_or ys n x) c.deref-entry-items.ensures.value in
-    each_more (λ e. IsClosed s (f e.1)) xs n x small read c.loop-i.invariant
-    (elim c.else-not-known.branch [
+    AllWithin-more (λ e. IsClosed s (f e.1)) xs 0 n c.loop-i.invariant
+    (at_read xs (λ e. IsClosed s (f e.1)) n x small read (elim c.else-not-known.branch [
       | else-not-known-via-then-not-known+in_ok-is_closed+else-not-branch w ↦ w.in_ok-is_closed.ensures.closed w.if-not-branch.false
       | else-not-known-via-else-not-known w ↦
           closed_as s o.host f xs scopes c.args.asked.now.rise n (f x.1) (omega arith)
           (subst (λ ys. Contains (map (λ e. f e.1) (take n ys)) (f x.1)) c.deref.ensures.value (c.is_one_of-known.ensures w.if-not-known.false o.host)) c.loop-i.invariant
-    ])
+    ]))
 
 pub returns : goal.returns
 returns c =

@@ -1,5 +1,6 @@
-use Rattle.pr_verify.proofs.Common.{length, refl, subst, arith, scenario_of, view_of, IsPermittedIn, IsRefusedIn, outline_of, place_of, IsFirstUnarmed}
+use Rattle.pr_verify.proofs.Common.{Some, None, refl, subst, arith, scenario_of, view_of, IsPermittedIn, IsRefusedIn, outline_of, place_of, IsFirstUnarmed}
 use Rattle.pr_roles.proofs.lemmas.Scenarios.Nexuses.{role_read}
+use Rattle.pr_verify.proofs.lemmas.Refusals.Classes.{all_past}
 use Rattle.pr_verify.proofs.lemmas.Reviewing.FittingPlaces.{IsHere, keeps_role, breaks_role, kept_is, broken_is, has_arms, lacks_arm_first}
 use Rattle.pr_verify.proofs.reviewing.review.Goals as goal
 
@@ -48,7 +49,7 @@ returns-in-None-clause-misfit c =
     let p = place_of c.args.spot.now in
     let permitted = subst (λ clauses. IsPermittedIn v clauses p.command) (role_read s own c.nexus_in.result.now c.nexus_in.ensures.nexus) (c.permitted.ensures.permitted c.if-not-permitted.false) in
     let here : IsHere o p v = record { at = c.requires.here; own = refl } in
-    let none = subst (IsFirstUnarmed 0 (length c.args.outcomes.now) c.args.outcomes.now) c.in-None.is c.first_unarmed.ensures in
+    let none = all_past c.args.outcomes.now 0 None (subst (IsFirstUnarmed 0 c.args.outcomes.now) c.in-None.is c.first_unarmed.ensures) in
     (has_arms s o p v here own c.args.outcomes.now c.requires.outcomes c.requires.written.next (λ class one. none class one (omega arith)), keeps_role s o p v here permitted)
 
 pub returns-in-Some-clause-misfit : goal.returns-in-Some-clause-misfit
@@ -60,4 +61,4 @@ returns-in-Some-clause-misfit c =
     let p = place_of c.args.spot.now in
     let permitted = subst (λ clauses. IsPermittedIn v clauses p.command) (role_read s own c.nexus_in.result.now c.nexus_in.ensures.nexus) (c.permitted.ensures.permitted c.if-not-permitted.false) in
     let here : IsHere o p v = record { at = c.requires.here; own = refl } in
-    (refl, refl, keeps_role s o p v here permitted, lacks_arm_first s o p v here own c.args.outcomes.now c.requires.outcomes c.in-Some.class c.in-Some.ensures.is (λ other one. c.in-Some.ensures.first other one (omega arith)))
+    (refl, refl, keeps_role s o p v here permitted, lacks_arm_first s o p v here own c.args.outcomes.now c.requires.outcomes c.in-Some.class c.in-Some.ensures.1.0 (λ other one. all_past c.args.outcomes.now 0 (Some c.in-Some.class) c.in-Some.ensures other one (omega arith)))

@@ -75,9 +75,9 @@ returns-clause-judgement c =
     let script = one.0 in
     let budget = one.1 in
     let least = of_script t own (λ b. IsLeastSound s b o) c.requires c.script_in-script.ensures.script c.in_ok-outline.ensures.least in
-    let found = subst (λ xs. IsFirstMisfit s o (length xs) xs misfit) c.deref.ensures.value c.in_ok-rows.ensures.misfit in
+    let found = subst (λ xs. IsFirstMisfit s o xs misfit) c.deref.ensures.value c.in_ok-rows.ensures.misfit in
     let same = subst (λ d. OnScripted d (λ b n. own ≡ b)) one.2 c.script_in-script.ensures.script in
     let costed = subst (λ d. OnScripted d (λ b n. IsCosted s h b n c.over_budget.result)) one.2 c.over_budget.ensures in
     subst (IsJudgement s h) (sym c.or-reason.ensures)
     (judgement s h own budget (one.2 ∙ ap (λ b. Some (Scripted b budget)) (sym same)) o c.in_ok-outline.ensures.host least c.in_ok-spots.ensures.fields spots c.in_ok-spots.ensures.places
-    (spots_rise own spots c.in_ok-spots.ensures.places s.keys c.script_in-script.ensures.fits) c.over_budget.result misfit (subst (λ b. IsCosted s h b budget c.over_budget.result) (sym same) costed) found)
+    c.over_budget.result misfit (subst (λ b. IsCosted s h b budget c.over_budget.result) (sym same) costed) found)

@@ -1,11 +1,9 @@
-use Rattle.pr_verify.proofs.Common.{◌≡◌, ◌+◌, [], length, take, sym, ap, ◌∙◌, subst, arith, AllZip, All-nil, scenario_of, FitsAt, outline_of, row_of, IsRow, Spot, IsAnswerTo, AreAnswersTo, place_of}
-use Rattle.std.proofs.lemmas.List.{take_all}
+use Rattle.pr_verify.proofs.Common.{◌≡◌, ◌+◌, [], ◌∷◌, ◌++◌, length, take, sym, ap, ◌∙◌, subst, arith, AllZip, AllWithin-none, slice_get_within, scenario_of, FitsAt, outline_of, row_of, IsRow, Spot, asker_of, AreAnswers, place_of}
+use Rattle.std.proofs.lemmas.List.{take_all, take_more}
+use Rattle.std.proofs.SliceLists.{all_zipped_more}
 use Rattle.pr_views.specs.declared.table.Row.{Row}
-use Rattle.pr_verify.specs.inside.Reviewing.{IsFirstMisfit}
-use Rattle.pr_verify.proofs.lemmas.Least.FirstLines.{each_none}
-use Rattle.pr_verify.proofs.lemmas.Reviewing.Findings.{misfit_more}
-use Rattle.pr_verify.proofs.lemmas.Known.Questions.{has_view, answer_within, answered_here}
-use Rattle.pr_verify.proofs.lemmas.Tabling.Rows.{zip_more}
+use Rattle.pr_verify.proofs.lemmas.Reviewing.Findings.{IsMisfitSoFar, either_misfit, misfit_of_all}
+use Rattle.pr_verify.proofs.lemmas.Known.Questions.{has_view, sends_rise, answered_here}
 use Rattle.pr_verify.proofs.tabling.rows.Goals as goal
 
 pub loop-i-init : goal.loop-i-init
@@ -13,14 +11,13 @@ loop-i-init c =
     let q = c.args.asked.now in
     record {
       rows = subst (AllZip (λ (p : Spot) (r : Row). IsRow (scenario_of q.scenario.now) (outline_of q.outline.now) (place_of p) (row_of r)) []) (sym c.new-rows.ensures.items) tt;
-      misfit = each_none (λ (p : Spot). FitsAt (scenario_of q.scenario.now) (outline_of q.outline.now) (place_of p)) q.spots.now;
-      known = subst (AreAnswersTo q) (sym c.new-known.ensures.items) (All-nil (IsAnswerTo q));
+      misfit = AllWithin-none (λ (p : Spot). FitsAt (scenario_of q.scenario.now) (outline_of q.outline.now) (place_of p)) q.spots.now 0;
+      known = subst (AreAnswers (asker_of q)) (sym c.new-known.ensures.items) (λ k d small. absurd (omega arith));
     }
 
 pub index-requires : goal.index-requires
 index-requires c =
-    let q = c.args.asked.now in
-    let there = answer_within q c.loop-i.i c.loop-i-test.true c.answer.new.known.items c.in_ok-answer.answer c.in_ok-answer.ensures.answer in
+    let there = slice_get_within c.answer.new.known.items c.in_ok-answer.answer c.in_ok-answer.ensures.answer.0 c.in_ok-answer.ensures.answer.1 in
     omega arith
 
 pub index-requires-in-loop-i : goal.index-requires-in-loop-i
@@ -43,9 +40,10 @@ loop-i-preserved c =
     let n = c.loop-i.i in
     record {
       rows = subst (AllZip R (take (n + 1) ys)) (sym c.in_ok-push.ensures.items)
-          (zip_more R ys c.loop-i.rows.items n c.spot-item.result c.in_ok-row.row c.loop-i-test.true c.spot-item.is c.loop-i.invariant.rows c.in_ok-row.ensures.row);
-      misfit = subst (IsFirstMisfit s o (n + 1) ys) (sym c.or-first.ensures)
-          (misfit_more s o ys n c.spot-item.result c.loop-i.first c.in_ok-row.misfit c.loop-i-test.true c.spot-item.is c.loop-i.invariant.misfit c.in_ok-row.ensures.misfit);
+          (subst (λ l. AllZip R l (c.loop-i.rows.items ++ c.in_ok-row.row ∷ [])) (ap (λ y. take n ys ++ y ∷ []) c.spot-item.is ∙ sym (take_more ys n c.spot-item.result c.loop-i-test.true))
+          (all_zipped_more R (take n ys) c.loop-i.rows.items c.spot-item.result c.in_ok-row.row c.loop-i.invariant.rows c.in_ok-row.ensures.row));
+      misfit = subst (IsMisfitSoFar s o ys (n + 1)) (sym c.or-first.ensures)
+          (either_misfit s o ys n c.spot-item.result c.loop-i-test.true c.spot-item.is (sends_rise c.args.asked.now) c.loop-i.first c.in_ok-row.misfit c.loop-i.invariant.misfit c.in_ok-row.ensures.misfit);
       known = c.in_ok-answer.ensures.known;
     }
 
@@ -60,8 +58,4 @@ returns-clause-rows c =
 
 pub returns-clause-misfit : goal.returns-clause-misfit
 returns-clause-misfit c =
-    let s = scenario_of c.args.asked.now.scenario.now in
-    let o = outline_of c.args.asked.now.outline.now in
-    let ys = c.args.asked.now.spots.now in
-    let whole : c.loop-i.i ≡ length ys = omega arith in
-    subst (λ n. IsFirstMisfit s o n ys c.loop-i.first) whole c.loop-i.invariant.misfit
+    misfit_of_all (scenario_of c.args.asked.now.scenario.now) (outline_of c.args.asked.now.outline.now) c.args.asked.now.spots.now c.loop-i.i c.loop-i.first c.loop-i-test.false c.loop-i.invariant.misfit

@@ -1,14 +1,15 @@
-use Rattle.pr_verify.proofs.Common.{◌≡◌, ◌≤◌, true, length, slice_index_or, All, sym, refl, ap, subst, arith, rules, IsAnswerTo, MOST_ARMS}
+use Rattle.pr_verify.proofs.Common.{◌≡◌, ◌<◌, ◌≤◌, true, length, slice_index_or, All, sym, refl, ap, subst, arith, rules, asker_of, StandsAt, MOST_ARMS}
 use Rattle.pr_script.specs.Grammar.{test_fits}
-use Rattle.pr_verify.specs.inside.Asked.{IsAskedBefore}
-use Rattle.pr_verify.proofs.lemmas.Known.Recollection.{all_pushed}
-use Rattle.pr_verify.proofs.lemmas.Known.Questions.{host_at, written_at, recalled, answer_to, answered_now}
+use Rattle.pr_verify.specs.inside.Known.{IsOutcomeAt, IsSameQuestion}
+use Rattle.pr_verify.proofs.lemmas.Known.Recollection.{all_pushed, recalled, answer_is, answered_at}
+use Rattle.pr_verify.proofs.lemmas.Known.Questions.{host_at, written_at, only_view, seen}
 use Rattle.pr_verify.proofs.answers.Questions.answer.Goals as goal
 
 pub returns-in-Some-clause-answer : goal.returns-in-Some-clause-answer
 returns-in-Some-clause-answer c =
-    recalled c.args.self.now c.args.place c.requires.there c.args.known.now.items c.in-Some.number c.requires.known
-    (subst (λ known. IsAskedBefore c.args.self.now c.args.place known c.in-Some.number) c.deref.ensures.value c.in-Some.ensures)
+    let q = c.args.self.now in
+    recalled (asker_of q) c.args.place c.args.known.now.items c.in-Some.number (seen q) c.requires.known
+    (subst (λ known. StandsAt (λ x. IsSameQuestion (asker_of q) x.spot c.args.place) known c.in-Some.number) c.deref.ensures.value c.in-Some.ensures)
 
 pub outcomes-requires : goal.outcomes-requires
 outcomes-requires c =
@@ -23,14 +24,18 @@ outcomes-requires c =
 
 pub returns-clause-known : goal.returns-clause-known
 returns-clause-known c =
-    all_pushed (IsAnswerTo c.args.self.now) c.args.known.now.items c.push.new.self.items _ c.in_ok-push.ensures.items c.requires.known
-    (answer_to c.args.self.now c.args.place c.requires.there (slice_index_or c.args.self.now.spots.now c.args.place c.index-self-place.result) c.index.result.now
-    (ap (slice_index_or c.args.self.now.spots.now c.args.place) c.index-self-place.is) c.index.ensures
-    _ refl c.in_ok-outcomes.ensures.alike c.deref-2.result.now c.deref-2.ensures.value c.refusals_in-refusals.result c.refusals_in-refusals.ensures c.in_ok-outcomes.ensures.outcomes)
+    let q = c.args.self.now in
+    let e = c.index.result.now in
+    all_pushed (λ x. (x.spot < length q.spots.now) × IsOutcomeAt (asker_of q) x.spot x.outcomes.items) c.args.known.now.items c.push.new.self.items _ c.in_ok-push.ensures.items c.requires.known
+    (answer_is (asker_of q) c.args.place (slice_index_or q.spots.now c.args.place c.index-self-place.result) e.1 (record { spot = c.args.place; outcomes = c.in_ok-outcomes.outcomes }) c.requires.there
+    (ap (slice_index_or q.spots.now c.args.place) c.index-self-place.is) (only_view q c.args.place c.requires.there e c.index.ensures) refl
+    c.in_ok-outcomes.ensures.alike c.deref-2.result.now c.deref-2.ensures.value c.refusals_in-refusals.result c.refusals_in-refusals.ensures c.in_ok-outcomes.ensures.outcomes)
 
 pub returns-clause-answer : goal.returns-clause-answer
 returns-clause-answer c =
-    answered_now c.args.self.now c.args.place c.requires.there (slice_index_or c.args.self.now.spots.now c.args.place c.index-self-place.result) c.index.result.now
-    (ap (slice_index_or c.args.self.now.spots.now c.args.place) c.index-self-place.is) c.index.ensures
-    (record { spot = c.args.place; outcomes = c.in_ok-outcomes.outcomes }) refl c.in_ok-outcomes.ensures.alike c.deref-2.result.now c.deref-2.ensures.value c.refusals_in-refusals.result c.refusals_in-refusals.ensures c.in_ok-outcomes.ensures.outcomes
+    let q = c.args.self.now in
+    let e = c.index.result.now in
+    answered_at (asker_of q) c.args.place (slice_index_or q.spots.now c.args.place c.index-self-place.result) e.1 (record { spot = c.args.place; outcomes = c.in_ok-outcomes.outcomes }) c.requires.there
+    (ap (slice_index_or q.spots.now c.args.place) c.index-self-place.is) (only_view q c.args.place c.requires.there e c.index.ensures) refl
+    c.in_ok-outcomes.ensures.alike c.deref-2.result.now c.deref-2.ensures.value c.refusals_in-refusals.result c.refusals_in-refusals.ensures c.in_ok-outcomes.ensures.outcomes
     c.args.known.now.items c.push.new.self.items c.len-number.result c.in_ok-push.ensures.items (omega (arith, c.len-number.ensures))

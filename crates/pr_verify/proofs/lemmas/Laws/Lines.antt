@@ -16,7 +16,7 @@ use Rattle.pr_script.specs.Takes.{take}
 use Rattle.pr_script.specs.Costs.{commands}
 use Rattle.pr_script.proofs.lemmas.Costs.Budgets.{cost_bounds_sends, IsWithinCost, within_cost_taken}
 use Rattle.pr_roles.proofs.lemmas.Worlds.Counts.{sent_other, sent_own, sent_reset}
-use Rattle.pr_verify.specs.inside.Invariants.{IsTurn, IsTaken, IsInvariant}
+use Rattle.pr_verify.proofs.lemmas.Laws.HostInvariants.{IsTurn, IsTaken, IsInvariant}
 use Rattle.pr_verify.proofs.lemmas.Places.Successors.{Leads, leads_begun}
 use Rattle.pr_verify.proofs.lemmas.Places.Replies.{LeadsOn, IsReadyAt, ready_at}
 

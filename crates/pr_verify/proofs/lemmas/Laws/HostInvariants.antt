@@ -21,7 +21,6 @@ use Rattle.pr_roles.specs.Permits.{command_permitted}
 use Rattle.pr_roles.specs.Scenarios.{Scenario, role, task}
 use Rattle.pr_roles.specs.Starts.{IsAllowedStart}
 use Rattle.pr_roles.specs.Worlds.{entry_of, commands_by, may_reset}
-use Rattle.pr_roles.specs.Safety.{IsSafe}
 use Rattle.pr_interference.specs.Interference.{IsDone}
 use Rattle.pr_verify.specs.Outlines.{OnScripted}
 
@@ -55,7 +54,3 @@ pub record IsInvariant (s : Scenario) (h : ℕ) (script : Stmts) (budget : ℕ) 
 -- for each scripted host one
 abbrev pub HaveInvariants : (s : Scenario) → (ℕ → Configuration → List Item → UnitState → Type 0) → Type 0
 HaveInvariants s Holds = (h : ℕ) → h < length s.nexuses → OnScripted (task s h) (λ script budget. IsInvariant s h script budget (Holds h))
-
--- Invariants, one for each scripted host, make a scenario safe.
-abbrev pub InvariantsMakeSafe : Type 1
-InvariantsMakeSafe = (s : Scenario) (Holds : ℕ → Configuration → List Item → UnitState → Type 0) → HaveInvariants s Holds → IsSafe s

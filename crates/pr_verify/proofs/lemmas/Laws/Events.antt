@@ -13,7 +13,7 @@ use Rattle.pr_roles.specs.Safety.{KeepsRole}
 use Rattle.pr_unit.specs.Replies.{is_good}
 use Rattle.pr_roles.proofs.lemmas.Worlds.Controls.{there, at_start as begins, nobody_at_start, control_other, control_own}
 use Rattle.pr_roles.proofs.lemmas.Worlds.Counts.{sent_other, sent_own, sent_reset}
-use Rattle.pr_verify.specs.inside.Invariants.{IsTurn, IsTaken, IsInvariant, HaveInvariants}
+use Rattle.pr_verify.proofs.lemmas.Laws.HostInvariants.{IsTurn, IsTaken, IsInvariant, HaveInvariants}
 use Rattle.pr_verify.proofs.lemmas.Outlines.UnnoticedCommands.{noticed}
 
 -- ---- what is kept

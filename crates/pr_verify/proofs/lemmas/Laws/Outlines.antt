@@ -2,9 +2,9 @@
 use Rattle.pr_verify.proofs.Common.{ℕ, ◌<◌, List, Some, Option, length, UnitState, Configuration, Stmts, Task, Scripted, task, Scenario, IsShownAt, HasOutline, OnScripted, SendsFit}
 use Rattle.pr_roles.specs.declared.item.Item.{Item}
 use Rattle.pr_verify.specs.Laws.{OutlinesMakeSafe}
-use Rattle.pr_verify.specs.inside.Invariants.{IsInvariant}
-use Rattle.pr_verify.proofs.lemmas.Invariants.Laws.{invariants_make_safe}
-use Rattle.pr_verify.proofs.lemmas.Invariants.Lines.{HoldsAtLines, outline_is_invariant}
+use Rattle.pr_verify.proofs.lemmas.Laws.HostInvariants.{IsInvariant}
+use Rattle.pr_verify.proofs.lemmas.Laws.Safety.{invariants_make_safe}
+use Rattle.pr_verify.proofs.lemmas.Laws.Lines.{HoldsAtLines, outline_is_invariant}
 
 -- one of several invariants is one
 some_invariant : (s : Scenario) (h : ℕ) (script : Stmts) (budget : ℕ) (A : Type 0) (a : A) (H : A → Configuration → List Item → UnitState → Type 0) → ((x : A) → IsInvariant s h script budget (H x))
