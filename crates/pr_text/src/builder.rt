@@ -289,7 +289,8 @@ impl Builder {
         wanted: &[StartReservation],
     ) -> Result<Self, ReadError>
         ensures { Gives declared_by result
-            (declaring_step line (reservation_line (map wanted_seen wanted.now)) (declared_by self)) }
+            (declaring_step line (reservation_line (map wanted_seen wanted.now))
+            (declared_by self)) }
     {
         let Some(reservations) = self.reservations_of(alloc, wanted)? else {
             return Err(ReadError::UnknownName { line });
