@@ -8,9 +8,9 @@ use crate::plan::AcceptedPlan;
 use crate::sheet::Sheet;
 use crate::source::first_word;
 use crate::together::put_together;
-use pr_output::WriteFault;
+use pr_output::{Token, WriteFault};
 use pr_roles::Parts;
-use pr_words::saying::{Part, line_number, name, number};
+use pr_words::saying::line_number;
 use std::io::Write;
 
 /// What `accepted` says, and what it rests on.
@@ -43,19 +43,19 @@ pub(crate) fn put_accepted<W: Write>(
 }
 
 fn put_cost<W: Write>(sheet: &mut Sheet<'_, W>, host: &[u8], cost: Cost) -> Result<(), WriteFault> {
-    sheet.say(&[
-        Part::Text(b"The script of"),
-        name(host),
-        Part::Text(b" sends at most"),
-        number(cost.cost),
-        Part::Text(if cost.cost == 1 {
-            b" command; its budget is".as_slice()
-        } else {
-            b" commands; its budget is"
-        }),
-        number(u64::from(cost.budget)),
-        Part::Text(b".\n"),
-    ])
+    sheet.say(
+        b"The script of {} sends at most {}{} {}.\n",
+        &[
+            Token::Text(host),
+            Token::Number(cost.cost),
+            Token::Text(if cost.cost == 1 {
+                b" command; its budget is".as_slice()
+            } else {
+                b" commands; its budget is"
+            }),
+            Token::Number(u64::from(cost.budget)),
+        ],
+    )
 }
 
 // What is worth a look, and above it the arms that only another disk may want.
@@ -112,7 +112,7 @@ fn put_lines_of_arms<W: Write>(sheet: &mut Sheet<'_, W>, lints: &[Lint]) -> Resu
             && lints.iter().any(|lint| is_of_arm(*lint, send, arm))
             && !sends_in_arm(lines, index)
         {
-            sheet.say(&[Part::Text(comma), line_number(index)])?;
+            sheet.say(b"{} {}", &[Token::Text(comma), line_number(index)])?;
             comma = b",";
         }
     }

@@ -13,7 +13,6 @@ use pr_output::{Token, WriteFault};
 use pr_script::Class;
 use pr_script::limits::{MOST_ARMS, MOST_BUDGET, MOST_STATEMENTS};
 use pr_verify::{Refusal, Row};
-use pr_words::saying::{Part, name, number};
 use std::io::Write;
 
 /// Writes what would mend it.
@@ -51,11 +50,10 @@ change: what leads here, in the script or in the roles of the others.\n",
     if row.tests.len().saturating_add(wanted) > MOST_ARMS {
         put_crowded(sheet, row)?;
     } else {
-        sheet.say(&[
-            Part::Text(b"\nTo mend it, write behind line"),
-            number(end_of(sheet.lines, index_of(send.line)) as u64),
-            Part::Text(b", with a word of your own or with what is to be done then:\n"),
-        ])?;
+        sheet.say(
+            b"\nTo mend it, write behind line {}, with a word of your own or with what is to be done then:\n",
+            &[Token::Number(end_of(sheet.lines, index_of(send.line)) as u64)],
+        )?;
         put_missing(sheet, &row.unarmed)?;
         let statements = statements_in(sheet.lines, send.nexus.name.as_str().as_bytes());
         put_statements(sheet, statements.saturating_add(wanted))?;
@@ -85,15 +83,13 @@ fn is_attention(class: &Class) -> bool {
 fn put_crowded<W: Write>(sheet: &mut Sheet<'_, W>, row: &Row) -> Result<(), WriteFault> {
     sheet.put(b"\nThese arms are missing:\n")?;
     put_missing(sheet, &row.unarmed)?;
-    sheet.say(&[
-        Part::Text(b"The send has"),
-        number(row.tests.len() as u64),
-        Part::Text(b" arms, and can't have more than"),
-        number(MOST_ARMS as u64),
-        Part::Text(
-            b": let one arm take several replies, as `on attention` takes each 6/../.., or `on good` each GOOD.\n",
-        ),
-    ])
+    sheet.say(
+        b"The send has {} arms, and can't have more than {}: let one arm take several replies, as `on attention` takes each 6/../.., or `on good` each GOOD.\n",
+        &[
+            Token::Number(row.tests.len() as u64),
+            Token::Number(MOST_ARMS as u64),
+        ],
+    )
 }
 
 // That the script can't have so many statements, where it can't.
@@ -101,13 +97,13 @@ fn put_statements<W: Write>(sheet: &mut Sheet<'_, W>, statements: usize) -> Resu
     if statements <= MOST_STATEMENTS as usize {
         return Ok(());
     }
-    sheet.say(&[
-        Part::Text(b"With that the script has"),
-        number(statements as u64),
-        Part::Text(b" statements, and can't have more than"),
-        number(u64::from(MOST_STATEMENTS)),
-        Part::Text(b": make it shorter first.\n"),
-    ])
+    sheet.say(
+        b"With that the script has {} statements, and can't have more than {}: make it shorter first.\n",
+        &[
+            Token::Number(statements as u64),
+            Token::Number(u64::from(MOST_STATEMENTS)),
+        ],
+    )
 }
 
 // The arms that are missing.
@@ -119,11 +115,7 @@ fn put_missing<W: Write>(sheet: &mut Sheet<'_, W>, unarmed: &[Class]) -> Result<
             } else {
                 Token::Class(*class)
             };
-            sheet.say(&[
-                Part::Text(b"  on"),
-                Part::Spaced(waits_for),
-                Part::Text(b"\n    stop gives-up\n"),
-            ])?;
+            sheet.say(b"  on {}\n    stop gives-up\n", &[waits_for])?;
         }
     }
     Ok(())
@@ -165,16 +157,11 @@ fn put_budget<W: Write>(
 in its most expensive arm behind it.\n",
         );
     }
-    sheet.say(&[
-        Part::Text(
-            b"\nTo mend it, let a repeat run less often, do what stands in its most expensive arm behind it,
-or write:\n  script",
-        ),
-        name(host),
-        Part::Text(b" budget"),
-        number(cost),
-        Part::Text(b"\n"),
-    ])
+    sheet.say(
+        b"\nTo mend it, let a repeat run less often, do what stands in its most expensive arm behind it,
+or write:\n  script {} budget {}\n",
+        &[Token::Text(host), Token::Number(cost)],
+    )
 }
 
 /// Writes the action of a clause that names the command, after a space.
@@ -187,15 +174,15 @@ pub(crate) fn put_action<W: Write>(
             sheet.put(b" unregister")
         }
         Command::Register { sark, .. } | Command::RegisterIgnore { sark } => {
-            sheet.say(&[Part::Text(b" register"), key(sark)])
+            sheet.say(b" register {}", &[key(sark)])
         }
-        Command::Reserve { kind, .. } => sheet.say(&[Part::Text(b" reserve"), type_word(kind)]),
+        Command::Reserve { kind, .. } => sheet.say(b" reserve {}", &[type_word(kind)]),
         Command::Release { .. } => sheet.put(b" release"),
         Command::Clear { .. } => sheet.put(b" clear"),
         Command::Preempt { sark, kind, .. } | Command::PreemptAbort { sark, kind, .. } => {
-            sheet.say(&[Part::Text(b" preempt"), key(sark)])?;
+            sheet.say(b" preempt {}", &[key(sark)])?;
             match kind {
-                Some(kind) => sheet.say(&[type_word(kind)]),
+                Some(kind) => sheet.say(b" {}", &[type_word(kind)]),
                 None => Ok(()),
             }
         }
@@ -209,6 +196,6 @@ pub(crate) fn put_action<W: Write>(
     }
 }
 
-fn type_word(kind: Kind) -> Part<'static> {
-    number(u64::from(kind.code()))
+fn type_word(kind: Kind) -> Token<'static> {
+    Token::Number(u64::from(kind.code()))
 }

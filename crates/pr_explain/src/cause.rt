@@ -6,13 +6,12 @@ use crate::senders::SentBy;
 use crate::sheet::{Sheet, command_number};
 use crate::stepping::is_met;
 use pr_cdb::{Command, Kind};
-use pr_output::WriteFault;
+use pr_output::{Token, WriteFault};
 use pr_registry::{Held, kind_of};
 use pr_roles::{Condition, names};
 use pr_unit::Unit;
 use pr_witness::Breach;
 use pr_words::put_reply;
-use pr_words::saying::{Part, name, number};
 use std::io::Write;
 
 /// What a clause may ask for.
@@ -109,13 +108,14 @@ fn put_loss<W: Write>(
     let Some((sender, command)) = command_at(&breach.run.history, loss.index) else {
         return Ok(());
     };
-    sheet.say(&[
-        Part::Text(b"Command"),
-        command_number(loss.index),
-        Part::Text(b", by"),
-        name(sheet.name_of(sender)),
-        Part::Text(if sender == host { b" itself, " } else { b", " }),
-    ])?;
+    sheet.say(
+        b"Command {}, by {}{}",
+        &[
+            command_number(loss.index),
+            Token::Text(sheet.name_of(sender)),
+            Token::Text(if sender == host { b" itself, " } else { b", " }),
+        ],
+    )?;
     put_deed(sheet, host, condition, loss, command)?;
     sheet.put(b".\n")
 }
@@ -179,17 +179,16 @@ fn put_preempting<W: Write>(
     condition: Condition,
     loss: Loss,
 ) -> Result<(), WriteFault> {
-    let host = name(sheet.name_of(host));
+    let host = Token::Text(sheet.name_of(host));
     match condition {
         Condition::Holder if loss.before != loss.after && loss.after.is_some() => {
-            sheet.say(&[Part::Text(b"took the reservation from"), host])
+            sheet.say(b"took the reservation from {}", &[host])
         }
         Condition::Reserved => sheet.put(b"ended the reservation"),
-        Condition::Registered | Condition::Holder => sheet.say(&[
-            Part::Text(b"took the registration of"),
-            host,
-            Part::Text(b" away"),
-        ]),
+        Condition::Registered | Condition::Holder => sheet.say(
+            b"took the registration of {} away",
+            &[host],
+        ),
     }
 }
 
@@ -211,9 +210,12 @@ fn put_opening<W: Write>(
     let Some(whom) = whom_it_lets(held, command, &unit, send.host) else {
         return Ok(());
     };
-    sheet.say(&[Part::Text(b"Type"), number(u64::from(kind_of(held).code()))])?;
+    sheet.say(
+        b"Type {}",
+        &[Token::Number(u64::from(kind_of(held).code()))],
+    )?;
     if let Held::One(_, holder) = held {
-        sheet.say(&[Part::Text(b" of"), name(sheet.name_of(holder))])?;
+        sheet.say(b" of {}", &[Token::Text(sheet.name_of(holder))])?;
     }
     sheet.put(whom)
 }
@@ -265,22 +267,15 @@ fn put_unreserved<W: Write>(
 ) -> Result<(), WriteFault> {
     let condition = Condition::Reserved;
     let Some(loss) = loss_of(breach, host, condition) else {
-        return sheet.say(&[
-            Part::Text(b"Nothing is reserved then, so "),
-            Part::Text(may),
-            Part::Text(b".\n"),
-        ]);
+        return sheet.say(b"Nothing is reserved then, so {}.\n", &[Token::Text(may)]);
     };
     if told != Some(loss.index) {
         put_loss(sheet, breach, host, condition, loss)?;
     }
-    sheet.say(&[
-        Part::Text(b"From command"),
-        command_number(loss.index),
-        Part::Text(b" on nothing is reserved, and "),
-        Part::Text(may),
-        Part::Text(b".\n"),
-    ])
+    sheet.say(
+        b"From command {} on nothing is reserved, and {}.\n",
+        &[command_number(loss.index), Token::Text(may)],
+    )
 }
 
 /// Writes by which command, and with which reply, the nexus was told what another did, if it was. Answers the line of that command.
@@ -297,13 +292,10 @@ pub(crate) fn put_told<W: Write>(
     let Some(SentBy::Line(line)) = senders.get(index) else {
         return Ok(None);
     };
-    sheet.say(&[
-        Part::Text(b"The reply to command"),
-        command_number(index),
-        Part::Text(b" told"),
-        name(sheet.name_of(host)),
-        Part::Text(b" so: "),
-    ])?;
+    sheet.say(
+        b"The reply to command {} told {} so: ",
+        &[command_number(index), Token::Text(sheet.name_of(host))],
+    )?;
     put_reply(&mut sheet.writer, &entry.wire, &entry.reply)?;
     sheet.put(b".\n")?;
     Ok(Some(*line))

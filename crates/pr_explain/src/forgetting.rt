@@ -3,7 +3,7 @@
 use crate::combination::Combination;
 use crate::fact::Fact;
 use crate::refused_send::{RefusedSend, is_uncounted};
-use crate::showing::first_refused;
+use crate::showing::{Shown, first_refused};
 use pr_explore::{Bounds, Explorer, Goal};
 use pr_roles::Scenario;
 use pr_unit::Unit;
@@ -31,19 +31,30 @@ pub(crate) fn forgotten(
     if refused.unarmed.is_some_and(is_uncounted) {
         return Ok(None);
     }
-    let Some(shown) = first_refused(alloc, &refused)? else {
-        return Ok(None);
-    };
-    let mut explorer = Explorer::new(alloc, scenario, bounds)?;
-    go_through(alloc, &mut explorer)?;
-    if explorer.bound().is_some() {
-        return Ok(None);
-    }
     let send = Goal {
         host: refused.host,
         line: refused.line,
     };
-    let seen = seen_together(alloc, scenario, &explorer, send, &shown.facts)?;
+    let Some(shown) = first_refused(alloc, &refused)? else {
+        return Ok(None);
+    };
+    let mut explorer = Explorer::new(alloc, scenario, bounds)?;
+    never_together(alloc, scenario, &mut explorer, send, &shown)
+}
+
+// Which of the facts that are shown are never so all at once in a world in which this is about to be sent, as few as can be.
+fn never_together(
+    alloc: Global,
+    scenario: &Scenario,
+    explorer: &mut Explorer<'_>,
+    send: Goal,
+    shown: &Shown,
+) -> Result<Option<Vec<Fact>>, AllocError> {
+    go_through(alloc, explorer)?;
+    if explorer.bound().is_some() {
+        return Ok(None);
+    }
+    let seen = seen_together(alloc, scenario, explorer, send, &shown.facts)?;
     match Combination::least_beyond(&seen, shown.facts.len(), shown.chance) {
         Some(never) => Ok(Some(never.chosen(alloc, &shown.facts)?)),
         None => Ok(None),

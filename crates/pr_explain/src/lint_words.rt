@@ -8,7 +8,7 @@ use crate::source::{dropped_line, line_with};
 use pr_output::{Token, WriteFault};
 use pr_registry::Held;
 use pr_roles::Parts;
-use pr_words::saying::{Part, line_number, name, number};
+use pr_words::saying::line_number;
 use std::io::Write;
 
 /// Writes the lint at this place: the line that it is of, and below it what that says.
@@ -88,11 +88,10 @@ fn put_covered<W: Write>(
     above: usize,
 ) -> Result<(), WriteFault> {
     sheet.put_line(arm_of(sheet.lines, send, arm))?;
-    sheet.say(&[
-        Part::Text(b"    the arm above, on line"),
-        line_number(arm_of(sheet.lines, send, above)),
-        Part::Text(b", takes all that this one waits for.\n"),
-    ])
+    sheet.say(
+        b"    the arm above, on line {}, takes all that this one waits for.\n",
+        &[line_number(arm_of(sheet.lines, send, above))],
+    )
 }
 
 // Whether the clause lets the host change what others meet.
@@ -122,7 +121,7 @@ pub(crate) fn put_unused<W: Write>(
     are_several: bool,
     widens: bool,
 ) -> Result<(), WriteFault> {
-    sheet.say(&[Part::Text(b"   "), name(owner)])?;
+    sheet.say(b"    {}", &[Token::Text(owner)])?;
     sheet.put(match (widens, are_several) {
         (false, false) =>
             b"'s script never sends this. The clause changes nothing for anybody, and can go.\n".as_slice(),
@@ -133,7 +132,7 @@ pub(crate) fn put_unused<W: Write>(
             b"'s script never sends these. Delete the clauses: the checker assumes that",
     })?;
     if widens {
-        sheet.say(&[name(owner), Part::Text(b" may.\n")])?;
+        sheet.say(b" {} may.\n", &[Token::Text(owner)])?;
     }
     Ok(())
 }
@@ -143,18 +142,14 @@ fn put_not_used<W: Write>(sheet: &mut Sheet<'_, W>, unused: u64) -> Result<(), W
         sheet.put_line(index)?;
     }
     match dropped_line(sheet.lines, unused) {
-        Some(index) => sheet.say(&[
-            Part::Text(b"    the key"),
-            key(unused),
-            Part::Text(b" stands only in an option that its command does not use, as on line"),
-            line_number(index),
-            Part::Text(b".\n"),
-        ]),
-        None => sheet.say(&[
-            Part::Text(b"    no start, role, script or plan names the key"),
-            key(unused),
-            Part::Text(b".\n"),
-        ]),
+        Some(index) => sheet.say(
+            b"    the key {} stands only in an option that its command does not use, as on line {}.\n",
+            &[key(unused), line_number(index)],
+        ),
+        None => sheet.say(
+            b"    no start, role, script or plan names the key {}.\n",
+            &[key(unused)],
+        ),
     }
 }
 
@@ -170,19 +165,15 @@ fn put_no_reservation<W: Write>(
     match parts.reservations.get(alternative) {
         Some(Some(Held::One(kind, host))) => {
             let holder = sheet.name_of(*host);
-            sheet.say(&[
-                Part::Text(b"   "),
-                Part::Spaced(Token::Holder(*kind, holder)),
-                Part::Text(b" can't be: at the start"),
-                name(holder),
-                Part::Text(b" is not registered.\n"),
-            ])
+            sheet.say(
+                b"    {} can't be: at the start {} is not registered.\n",
+                &[Token::Holder(*kind, holder), Token::Text(holder)],
+            )
         }
-        Some(Some(Held::All(kind))) => sheet.say(&[
-            Part::Text(b"   "),
-            number(u64::from(kind.code())),
-            Part::Text(b" can't be: at the start nobody is registered.\n"),
-        ]),
+        Some(Some(Held::All(kind))) => sheet.say(
+            b"    {} can't be: at the start nobody is registered.\n",
+            &[Token::Number(u64::from(kind.code()))],
+        ),
         Some(None) | None => Ok(()),
     }
 }
@@ -191,13 +182,10 @@ fn put_no_reservation<W: Write>(
 fn put_no_start<W: Write>(sheet: &mut Sheet<'_, W>, host: u8) -> Result<(), WriteFault> {
     let owner = sheet.name_of(host);
     sheet.put_line_of(b"start", owner, 0)?;
-    sheet.say(&[
-        Part::Text(
-            b"    `free` can't be: each reservation that there may be at the start needs a key of",
-        ),
-        name(owner),
-        Part::Text(b".\n"),
-    ])
+    sheet.say(
+        b"    `free` can't be: each reservation that there may be at the start needs a key of {}.\n",
+        &[Token::Text(owner)],
+    )
 }
 
 /// The index of the line with this number.

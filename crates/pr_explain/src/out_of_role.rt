@@ -7,11 +7,10 @@ use crate::plan::RefusedPlan;
 use crate::refused_send::RefusedSend;
 use crate::senders::SentBy;
 use crate::sheet::{Sheet, key};
-use pr_output::WriteFault;
+use pr_output::{Token, WriteFault};
 use pr_roles::limits::MOST_CLAUSES;
 use pr_roles::{Action, Condition, Nexus, names};
 use pr_witness::{Breach, Broken, Finding};
-use pr_words::saying::{Part, name, number};
 use std::io::Write;
 
 /// Writes what the role asks for, what in the run took that away, what to change in the script, and last the wider role.
@@ -46,15 +45,17 @@ fn breach_in<'a>(finding: &'a Finding, send: RefusedSend<'_>) -> Option<&'a Brea
 // The clauses that permit the command under a condition, or that there is none.
 fn put_asked<W: Write>(sheet: &mut Sheet<'_, W>, send: RefusedSend<'_>) -> Result<(), WriteFault> {
     let owner = send.nexus.name.as_str().as_bytes();
-    sheet.say(&[
-        Part::Text(b"\nThe role of"),
-        name(owner),
-        Part::Text(if asked_of(send).is_some() {
-            b" permits this command only where a condition holds:\n".as_slice()
-        } else {
-            b" has no clause that names this command.\n"
-        }),
-    ])?;
+    sheet.say(
+        b"\nThe role of {}{}",
+        &[
+            Token::Text(owner),
+            Token::Text(if asked_of(send).is_some() {
+                b" permits this command only where a condition holds:\n".as_slice()
+            } else {
+                b" has no clause that names this command.\n"
+            }),
+        ],
+    )?;
     for (number, clause) in send.nexus.role.clauses.iter().enumerate() {
         if names(clause.action, send.row.command) {
             sheet.put_line_of(b"role", owner, number)?;
@@ -92,13 +93,13 @@ fn own_line(breach: &Breach, senders: &[SentBy], host: u8, loss: Loss) -> Option
 }
 
 fn put_own<W: Write>(sheet: &mut Sheet<'_, W>, nexus: &Nexus, own: u32) -> Result<(), WriteFault> {
-    sheet.say(&[
-        Part::Text(b"\nTo mend it, let the script send this before line"),
-        number(u64::from(own)),
-        Part::Text(b", or not at all: there"),
-        name(nexus.name.as_str().as_bytes()),
-        Part::Text(b" gives up what its role asks for.\n"),
-    ])
+    sheet.say(
+        b"\nTo mend it, let the script send this before line {}, or not at all: there {} gives up what its role asks for.\n",
+        &[
+            Token::Number(u64::from(own)),
+            Token::Text(nexus.name.as_str().as_bytes()),
+        ],
+    )
 }
 
 // What to do once the script was told.
@@ -107,15 +108,14 @@ fn put_after<W: Write>(
     send: RefusedSend<'_>,
     told: u32,
 ) -> Result<(), WriteFault> {
-    sheet.say(&[
-        Part::Text(b"\nTo mend it, change what the script does after that reply on line"),
-        number(u64::from(told)),
-        Part::Text(b": stop in the arm that takes it, or ask there"),
-        Part::Text(question(asked_of(send))),
-        Part::Text(b" before it goes on to line"),
-        number(u64::from(send.line)),
-        Part::Text(b".\n"),
-    ])
+    sheet.say(
+        b"\nTo mend it, change what the script does after that reply on line {}: stop in the arm that takes it, or ask there{} before it goes on to line {}.\n",
+        &[
+            Token::Number(u64::from(told)),
+            Token::Text(question(asked_of(send))),
+            Token::Number(u64::from(send.line)),
+        ],
+    )
 }
 
 // What to change in the script where no run says more.
@@ -129,17 +129,15 @@ fn put_mended_script<W: Write>(
 whether it fails, ask instead: --in --read-keys and --in --read-reservation need no clause.\n",
         );
     };
-    sheet.say(&[
-        Part::Text(b"\nTo mend it, ask before line"),
-        number(u64::from(send.line)),
-        Part::Text(question(Some(condition))),
-        Part::Text(b", and send this only in an arm "),
-        Part::Text(arm_word(condition)),
-        own_key(send.nexus, condition),
-        Part::Text(
-            b"`. Where another may take that away in between, it is refused all the same.\n",
-        ),
-    ])
+    sheet.say(
+        b"\nTo mend it, ask before line {}{}, and send this only in an arm {} {}`. Where another may take that away in between, it is refused all the same.\n",
+        &[
+            Token::Number(u64::from(send.line)),
+            Token::Text(question(Some(condition))),
+            Token::Text(arm_word(condition)),
+            own_key(send.nexus, condition),
+        ],
+    )
 }
 
 // What to ask.
@@ -160,7 +158,7 @@ fn arm_word(condition: Condition) -> &'static [u8] {
 }
 
 // The key that the arm looks for: of what is the nexus's own the first that its role or its start names.
-fn own_key(nexus: &Nexus, condition: Condition) -> Part<'static> {
+fn own_key(nexus: &Nexus, condition: Condition) -> Token<'static> {
     let registered = nexus
         .role
         .clauses
@@ -168,7 +166,7 @@ fn own_key(nexus: &Nexus, condition: Condition) -> Part<'static> {
         .find_map(|clause| registered_by(clause.action));
     match registered.or_else(|| nexus.start.alternatives.iter().find_map(|key| *key)) {
         Some(own) if condition != Condition::Reserved => key(own),
-        Some(_) | None => Part::Text(b" KEY"),
+        Some(_) | None => Token::Text(b"KEY"),
     }
 }
 
@@ -187,11 +185,10 @@ fn put_wider<W: Write>(sheet: &mut Sheet<'_, W>, send: RefusedSend<'_>) -> Resul
         sheet.put(b"Or let the role be wider, by this clause:\n")?;
         put_clause(sheet, send)?;
     } else {
-        sheet.say(&[
-            Part::Text(b"Or let the role be wider. It has"),
-            number(count as u64),
-            Part::Text(b" clauses, and can't have more: "),
-        ])?;
+        sheet.say(
+            b"Or let the role be wider. It has {} clauses, and can't have more: ",
+            &[Token::Number(count as u64)],
+        )?;
         if asked_of(send).is_some() {
             sheet.put(b"take the condition out of the one above.\n")?;
         } else {
@@ -204,10 +201,10 @@ fn put_wider<W: Write>(sheet: &mut Sheet<'_, W>, send: RefusedSend<'_>) -> Resul
 
 // The line of a clause that permits the command.
 fn put_clause<W: Write>(sheet: &mut Sheet<'_, W>, send: RefusedSend<'_>) -> Result<(), WriteFault> {
-    sheet.say(&[
-        Part::Text(b"  role"),
-        name(send.nexus.name.as_str().as_bytes()),
-    ])?;
+    sheet.say(
+        b"  role {}",
+        &[Token::Text(send.nexus.name.as_str().as_bytes())],
+    )?;
     put_action(sheet, &send.row.command)?;
     sheet.put(b"\n")
 }

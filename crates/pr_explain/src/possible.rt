@@ -5,9 +5,8 @@ ghost use Rattle.std.specs.Prelude.{◌<◌};
 use crate::refused_send::RefusedSend;
 use crate::sheet::{Sheet, key};
 use pr_attention::Attention;
-use pr_output::WriteFault;
+use pr_output::{Token, WriteFault};
 use pr_views::{ATTENTION_SETS, View, count_of_reservations, is_among, reservation_at};
-use pr_words::saying::{Part, name};
 use pr_words::{put_held, put_sense};
 use std::io::Write;
 
@@ -32,7 +31,7 @@ fn put_registrations<W: Write>(
 ) -> Result<(), WriteFault>
     requires { nexus < view.now.hosts }
 {
-    sheet.say(&[Part::Text(b" "), name(sheet.name_of(nexus))])?;
+    sheet.say(b"  {}", &[Token::Text(sheet.name_of(nexus))])?;
     let mut before = b"".as_slice();
     if view.has_registration(nexus, 0) {
         sheet.put(b" is not registered")?;
@@ -40,7 +39,7 @@ fn put_registrations<W: Write>(
     }
     for (number, known) in (1..u8::MAX).zip(view.keys.iter()) {
         if view.has_registration(nexus, number) {
-            sheet.say(&[Part::Text(before), Part::Text(b" has"), key(*known)])?;
+            sheet.say(b"{} has {}", &[Token::Text(before), key(*known)])?;
             before = b", or";
         }
     }
@@ -76,7 +75,7 @@ fn put_waiting<W: Write>(
             sheet.put(if is_first { b" " } else { b", or" })?;
             put_attentions(sheet, number)?;
             if is_first {
-                sheet.say(&[Part::Text(b" pending for"), name(owner)])?;
+                sheet.say(b" pending for {}", &[Token::Text(owner)])?;
             }
             is_first = false;
         }

@@ -9,10 +9,9 @@ use crate::refused_send::RefusedSend;
 use crate::running::put_finding;
 use crate::sheet::Sheet;
 use crate::source::{first_word, line_of};
-use pr_output::WriteFault;
+use pr_output::{Token, WriteFault};
 use pr_report::{Verdict, write_verdict};
 use pr_verify::Refusal;
-use pr_words::saying::{Part, name, number};
 use pr_words::{put_class, put_command};
 use std::io::Write;
 
@@ -82,24 +81,22 @@ fn put_what_may_end<W: Write>(
     sheet: &mut Sheet<'_, W>,
     send: RefusedSend<'_>,
 ) -> Result<(), WriteFault> {
-    let host = name(send.nexus.name.as_str().as_bytes());
+    let host = Token::Text(send.nexus.name.as_str().as_bytes());
     match send.unarmed {
         Some(class) => {
             sheet.put(b"This command may end in ")?;
             put_class(&mut sheet.writer, class)?;
-            sheet.say(&[
-                Part::Text(b", and no arm takes that:"),
-                host,
-                Part::Text(b" would be trapped here.\n"),
-            ])
+            sheet.say(
+                b", and no arm takes that: {} would be trapped here.\n",
+                &[host],
+            )
         }
         None => {
             put_command(&mut sheet.writer, &send.row.command)?;
-            sheet.say(&[
-                Part::Text(b" may end GOOD where the role of"),
-                host,
-                Part::Text(b" does not permit it.\n"),
-            ])
+            sheet.say(
+                b" may end GOOD where the role of {} does not permit it.\n",
+                &[host],
+            )
         }
     }
 }
@@ -113,16 +110,11 @@ fn put_over_budget<W: Write>(
         sheet.put_line(index)?;
         sheet.put(b"\n")?;
     }
-    sheet.say(&[
-        Part::Text(b"The script of"),
-        name(host),
-        Part::Text(b" costs"),
-        number(cost),
-        Part::Text(
-            b", which is more than its budget. A send costs 1 and its most
+    sheet.say(
+        b"The script of {} costs {}, which is more than its budget. A send costs 1 and its most
 expensive arm, a repeat its body as often as it may run, `break` and `stop` nothing. So it sends no
 more than its cost, but it may never come to it: a repeat counts its most expensive turn each time,
 also where that turn ends the script.\n",
-        ),
-    ])
+        &[Token::Text(host), Token::Number(cost)],
+    )
 }

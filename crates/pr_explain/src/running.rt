@@ -9,11 +9,10 @@ use crate::senders::SentBy;
 use crate::sheet::{Sheet, command_number};
 use crate::source::{line_of, line_with};
 use crate::unseen::put_unseen;
-use pr_output::WriteFault;
+use pr_output::{Token, WriteFault};
 use pr_roles::{Action, Clause, Item, Nexus};
 use pr_verify::Table;
 use pr_witness::{Bound, Breach, Broken, Finding};
-use pr_words::saying::{Part, name, number};
 use pr_words::{put_item, put_start};
 use std::io::Write;
 
@@ -65,14 +64,10 @@ fn reaches_unarmed(broken: Broken, send: Option<RefusedSend<'_>>) -> bool {
 
 // That nothing goes wrong with these scripts and roles.
 fn put_safe<W: Write>(sheet: &mut Sheet<'_, W>, worlds: usize) -> Result<(), WriteFault> {
-    sheet.say(&[
-        Part::Text(b"\nThis is safe all the same: all"),
-        number(worlds as u64),
-        Part::Text(
-            b" states of disk and scripts that can come up were looked at, and nothing goes wrong in any",
-        ),
-        Part::Text(b" of them. That is proved."),
-    ])
+    sheet.say(
+        b"\nThis is safe all the same: all {} states of disk and scripts that can come up were looked at, and nothing goes wrong in any of them. That is proved.",
+        &[Token::Number(worlds as u64)],
+    )
 }
 
 // What the search looked at, and what helps where a bound ended it.
@@ -81,11 +76,10 @@ fn put_nothing<W: Write>(
     worlds: usize,
     bound: Option<Bound>,
 ) -> Result<(), WriteFault> {
-    sheet.say(&[
-        Part::Text(b"\nNo run that shows it was found among"),
-        number(worlds as u64),
-        Part::Text(b" states of disk and scripts.\n"),
-    ])?;
+    sheet.say(
+        b"\nNo run that shows it was found among {} states of disk and scripts.\n",
+        &[Token::Number(worlds as u64)],
+    )?;
     let Some(bound) = bound else {
         return Ok(());
     };
@@ -97,11 +91,10 @@ fn put_nothing<W: Write>(
 fn put_bound<W: Write>(sheet: &mut Sheet<'_, W>, bound: Bound) -> Result<(), WriteFault> {
     match bound {
         Bound::Worlds => sheet.put(b"The search looks at no more, and another may show it.\n"),
-        Bound::Depth => sheet.say(&[
-            Part::Text(b"The search follows no run beyond"),
-            number(u64::from(SHOWN_BOUNDS.depth)),
-            Part::Text(b" steps. `fence witness` follows longer ones.\n"),
-        ]),
+        Bound::Depth => sheet.say(
+            b"The search follows no run beyond {} steps. `fence witness` follows longer ones.\n",
+            &[Token::Number(u64::from(SHOWN_BOUNDS.depth))],
+        ),
         Bound::Memory => {
             sheet.put(b"The search has no memory for more, and another may show it.\n")
         }
@@ -194,23 +187,21 @@ fn put_run<W: Write>(
 // What the last of the commands breaks.
 fn put_broken<W: Write>(sheet: &mut Sheet<'_, W>, broken: Broken) -> Result<(), WriteFault> {
     match broken {
-        Broken::NoArm { host, line } => sheet.say(&[
-            Part::Text(b"Now"),
-            name(sheet.name_of(host)),
-            Part::Text(b" is trapped at line"),
-            number(u64::from(line)),
-            Part::Text(b": no arm takes this reply.\n"),
-        ]),
-        Broken::OutOfRole { host, .. } => sheet.say(&[
-            Part::Text(b"This ended GOOD, and the role of"),
-            name(sheet.name_of(host)),
-            Part::Text(b" does not permit it now.\n"),
-        ]),
-        Broken::OverBudget { host } => sheet.say(&[
-            Part::Text(b"With this"),
-            name(sheet.name_of(host)),
-            Part::Text(b" has sent more commands than its budget.\n"),
-        ]),
+        Broken::NoArm { host, line } => sheet.say(
+            b"Now {} is trapped at line {}: no arm takes this reply.\n",
+            &[
+                Token::Text(sheet.name_of(host)),
+                Token::Number(u64::from(line)),
+            ],
+        ),
+        Broken::OutOfRole { host, .. } => sheet.say(
+            b"This ended GOOD, and the role of {} does not permit it now.\n",
+            &[Token::Text(sheet.name_of(host))],
+        ),
+        Broken::OverBudget { host } => sheet.say(
+            b"With this {} has sent more commands than its budget.\n",
+            &[Token::Text(sheet.name_of(host))],
+        ),
     }
 }
 
@@ -226,13 +217,10 @@ fn put_permissions<W: Write>(
         };
         let guest = sheet.name_of(entry.host);
         if let Some(index) = line_of(sheet.lines, b"role", guest, *clause) {
-            sheet.say(&[
-                Part::Text(b"Command"),
-                command_number(place),
-                Part::Text(b" is one that the role of"),
-                name(guest),
-                Part::Text(b" permits:\n"),
-            ])?;
+            sheet.say(
+                b"Command {} is one that the role of {} permits:\n",
+                &[command_number(place), Token::Text(guest)],
+            )?;
             sheet.put_line(index)?;
         }
     }

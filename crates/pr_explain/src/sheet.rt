@@ -3,7 +3,7 @@
 use crate::source::line_of;
 use pr_output::{Token, WriteFault, put};
 use pr_roles::{Nexus, Scenario};
-use pr_words::saying::{Part, line_number, number, say};
+use pr_words::saying::{line_number, put_filled};
 use pr_words::{Wrapping, name_of};
 use std::io::Write;
 
@@ -35,9 +35,9 @@ impl<'a, W: Write> Sheet<'a, W> {
         put(&mut self.writer, text)
     }
 
-    /// Writes the parts of a sentence one behind the other.
-    pub(crate) fn say(&mut self, parts: &[Part<'_>]) -> Result<(), WriteFault> {
-        say(&mut self.writer, parts)
+    /// Writes the text, with the next of these words in place of each `{}`.
+    pub(crate) fn say(&mut self, text: &[u8], words: &[Token<'_>]) -> Result<(), WriteFault> {
+        put_filled(&mut self.writer, text, words)
     }
 
     /// Writes the line with this index, behind its number.
@@ -45,13 +45,7 @@ impl<'a, W: Write> Sheet<'a, W> {
         let Some(line) = self.lines.get(index) else {
             return Ok(());
         };
-        self.say(&[
-            Part::Text(b" "),
-            line_number(index),
-            Part::Text(b" | "),
-            Part::Text(line),
-            Part::Text(b"\n"),
-        ])
+        self.say(b"  {} | {}\n", &[line_number(index), Token::Text(line)])
     }
 
     /// Writes the line that `line_of` answers, if there is one.
@@ -68,12 +62,12 @@ impl<'a, W: Write> Sheet<'a, W> {
     }
 }
 
-/// A key, after a space.
-pub(crate) fn key(value: u64) -> Part<'static> {
-    Part::Spaced(Token::Key(value))
+/// A key.
+pub(crate) fn key(value: u64) -> Token<'static> {
+    Token::Key(value)
 }
 
-/// The number of the command at this place of a run, after a space.
-pub(crate) fn command_number(place: usize) -> Part<'static> {
-    number((place as u64).saturating_add(1))
+/// The number of the command at this place of a run.
+pub(crate) fn command_number(place: usize) -> Token<'static> {
+    Token::Number((place as u64).saturating_add(1))
 }

@@ -2,9 +2,8 @@
 
 use crate::sheet::Sheet;
 use pr_audit::End;
-use pr_output::WriteFault;
+use pr_output::{Token, WriteFault};
 use pr_witness::{Ends, Together};
-use pr_words::saying::{Part, name, number};
 use std::io::Write;
 
 /// More of them nobody reads.
@@ -23,17 +22,15 @@ More worlds can come up than were looked at here, so it is not told which words 
         );
     }
     let count = ends.together.len();
-    sheet.say(&[
-        Part::Text(b"\nIn all worlds that can come up, which are"),
-        number(ends.worlds as u64),
-        Part::Text(b", the scripts stop together"),
-    ])?;
+    sheet.say(
+        b"\nIn all worlds that can come up, which are {}, the scripts stop together",
+        &[Token::Number(ends.worlds as u64)],
+    )?;
     if count > MOST_TOLD {
-        return sheet.say(&[
-            Part::Text(b" in"),
-            number(count as u64),
-            Part::Text(b" ways: `fence ends` lists them.\n"),
-        ]);
+        return sheet.say(
+            b" in {} ways: `fence ends` lists them.\n",
+            &[Token::Number(count as u64)],
+        );
     }
     sheet.put(b" so, and in no other way:\n")?;
     for together in &ends.together {
@@ -64,5 +61,5 @@ fn put_word<'a, W: Write>(
     host: &'a [u8],
     word: &'a [u8],
 ) -> Result<(), WriteFault> {
-    sheet.say(&[name(host), Part::Text(b" with"), name(word)])
+    sheet.say(b" {} with {}", &[Token::Text(host), Token::Text(word)])
 }

@@ -4,10 +4,9 @@ use crate::fact::Fact;
 use crate::possible::put_attentions;
 use crate::refused_send::{RefusedSend, is_uncounted};
 use crate::sheet::{Sheet, key};
-use pr_output::WriteFault;
+use pr_output::{Token, WriteFault};
 use pr_roles::{Nexus, Task};
 use pr_script::Class;
-use pr_words::saying::{Part, name, number};
 use pr_words::{put_class, put_held};
 use std::io::Write;
 
@@ -60,11 +59,10 @@ fn put_forgotten<W: Write>(
 
 // That a view has its lists apart.
 fn put_apart<W: Write>(sheet: &mut Sheet<'_, W>, line: u32) -> Result<(), WriteFault> {
-    sheet.say(&[
-        Part::Text(b"it knows what may be so at line"),
-        number(u64::from(line)),
-        Part::Text(b", each by itself, but not what comes together."),
-    ])
+    sheet.say(
+        b"it knows what may be so at line {}, each by itself, but not what comes together.",
+        &[Token::Number(u64::from(line))],
+    )
 }
 
 // That the host never comes to the line.
@@ -73,13 +71,13 @@ fn put_no_send<W: Write>(
     send: RefusedSend<'_>,
 ) -> Result<(), WriteFault> {
     put_unremembered(sheet, send.host)?;
-    sheet.say(&[
-        Part::Text(b" So it must assume that"),
-        name(sheet.name_of(send.host)),
-        Part::Text(b" comes to line"),
-        number(u64::from(send.line)),
-        Part::Text(b". It never does."),
-    ])
+    sheet.say(
+        b" So it must assume that {} comes to line {}. It never does.",
+        &[
+            Token::Text(sheet.name_of(send.host)),
+            Token::Number(u64::from(send.line)),
+        ],
+    )
 }
 
 // That this never is so at the line.
@@ -89,11 +87,10 @@ fn put_never<W: Write>(
     fact: Fact,
 ) -> Result<(), WriteFault> {
     put_unremembered(sheet, send.host)?;
-    sheet.say(&[
-        Part::Text(b" So it must assume that this may be so at line"),
-        number(u64::from(send.line)),
-        Part::Text(b":\n"),
-    ])?;
+    sheet.say(
+        b" So it must assume that this may be so at line {}:\n",
+        &[Token::Number(u64::from(send.line))],
+    )?;
     put_fact(sheet, send.host, fact)?;
     sheet.put(b"It never is so there.")
 }
@@ -130,9 +127,9 @@ fn put_fact<W: Write>(sheet: &mut Sheet<'_, W>, host: u8, fact: Fact) -> Result<
     sheet.put(b" ")?;
     match fact {
         Fact::Key { nexus, key: known } => {
-            sheet.say(&[name(sheet.name_of(nexus))])?;
+            sheet.say(b" {}", &[Token::Text(sheet.name_of(nexus))])?;
             match known {
-                Some(known) => sheet.say(&[Part::Text(b" has"), key(known)])?,
+                Some(known) => sheet.say(b" has {}", &[key(known)])?,
                 None => sheet.put(b" is not registered")?,
             }
         }
@@ -142,7 +139,7 @@ fn put_fact<W: Write>(sheet: &mut Sheet<'_, W>, host: u8, fact: Fact) -> Result<
         }
         Fact::Pending(attentions) => {
             put_attentions(sheet, attentions)?;
-            sheet.say(&[Part::Text(b" pending for"), name(sheet.name_of(host))])?;
+            sheet.say(b" pending for {}", &[Token::Text(sheet.name_of(host))])?;
         }
     }
     sheet.put(b"\n")
