@@ -42,7 +42,8 @@ pub(crate) fn forgotten(
     never_together(alloc, scenario, &mut explorer, send, &shown)
 }
 
-// Which of the facts that are shown are never so all at once in a world in which this is about to be sent, as few as can be.
+// Which of the facts that are shown are never so all at once in a world in which this is about to be sent, as few as can be. (It is handed the
+// explorer, which its caller drops: a function that drops it at each of its ways out costs the prover two minutes more.)
 fn never_together(
     alloc: Global,
     scenario: &Scenario,
