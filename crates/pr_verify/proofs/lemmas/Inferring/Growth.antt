@@ -21,7 +21,7 @@ all_lack_no_less n g k p q there small goes same has_it = at (p g k) refl
   where
     at : (b : Bool) → p g k ≡ b → p g k ≡ true
     at true is = is
-    at false is = absurd (let fewer = lacking_all_fewer n g k p q there small goes is has_it in omega arith)
+    at false is = absurd (let fewer = lacking_all_fewer n g k p q there small (λ h below. goes h) is has_it in omega arith)
 
 -- ---- views
 
@@ -34,7 +34,7 @@ module _ (v w : View) (hosts : w.scope.hosts ≡ v.scope.hosts) (within : Within
       and_from (nat_lt g w.scope.hosts) (w.registrations g r) (lt-ltb g w.scope.hosts wide.0) wide.1
 
   registrations_less : count_of_all_lacking v.scope.hosts (has_registration w) ≤ count_of_all_lacking v.scope.hosts (has_registration v)
-  registrations_less = lacking_all_less v.scope.hosts (has_registration v) (has_registration w) has_more
+  registrations_less = lacking_all_less v.scope.hosts (has_registration v) (has_registration w) (λ g below. has_more g)
 
   reservations_less : count_of_lacking most w.reservations ≤ count_of_lacking most v.reservations
   reservations_less = lacking_less most v.reservations w.reservations (λ x is. within (Reservation x) is)
