@@ -8,9 +8,9 @@ ghost use Rattle.pr_text.specs.Reading.{IsRead};
 ghost use Rattle.pr_trace.specs.BytesTaken.{TakesUpTo, most_of_trace};
 ghost use Rattle.pr_trace.specs.TraceReadings.{FaultsTrace, ReadsTrace};
 
-use pr_faults::{write_text_fault, write_trace_fault};
 use pr_roles::{Item, Scenario};
 use pr_text::{ReadError, read_with_text};
+use pr_text_faults::{write_text_fault, write_trace_fault};
 use pr_trace::{TraceError, read_trace};
 use std::alloc::Global;
 use std::io::{Read, Write};
