@@ -3,6 +3,7 @@ pub mod Kinds
 pub mod Bytes
 pub mod Requests
 pub mod Ranges
+pub mod Actions
 pub mod Spelling
 pub mod ReplyData
 pub mod Statuses

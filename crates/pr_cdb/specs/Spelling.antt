@@ -2,13 +2,17 @@
 -- The bytes of each command, with zero in every field that the command does not name (SPC-4, 'TEST UNIT
 -- READY', 'REQUEST SENSE', 'PERSISTENT RESERVE IN' and 'PERSISTENT RESERVE OUT command'; SBC-3, 'READ
 -- (10)' and 'WRITE (10) command').
-use Rattle.std.specs.Prelude.{◌≡◌, ℕ, List, [], ◌∷◌, ◌++◌, length, take, slice_index, Option}
+use Rattle.std.specs.Prelude.{◌≡◌, ℕ, List, [], ◌∷◌, ◌++◌, length, take, slice_index, Option, Some, None}
 use Rattle.std.specs.Option.{option_map_or}
 use Rattle.std.specs.Int.{w16, w32, w64, to_be_bytes}
 use Rattle.pr_cdb.specs.declared.codes.TheConstants.{TEST_UNIT_READY, REQUEST_SENSE, READ_10, WRITE_10, PERSISTENT_RESERVE_IN, PERSISTENT_RESERVE_OUT, READ_KEYS, READ_RESERVATION, REPORT_CAPABILITIES, REGISTER, RESERVE, RELEASE, CLEAR, PREEMPT, PREEMPT_AND_ABORT, REGISTER_AND_IGNORE_EXISTING_KEY, FIXED_SENSE_LENGTH, PARAMETER_LIST_LENGTH}
 use Rattle.pr_cdb.specs.declared.command.Kind.{Kind}
 use Rattle.pr_cdb.specs.declared.command.Command.{Command}
-use Rattle.pr_cdb.specs.declared.command.Command.TheVariants.{TestUnitReady, RequestSense, Read, Write, ReadKeys, ReadReservation, ReportCapabilities, Register, RegisterIgnore, Reserve, Release, Clear, Preempt, PreemptAbort}
+use Rattle.pr_cdb.specs.declared.command.Command.TheVariants as command
+use Rattle.pr_cdb.specs.declared.action.ServiceAction.{ServiceAction}
+use Rattle.pr_cdb.specs.declared.action.ServiceAction.TheVariants as action
+use Rattle.pr_cdb.specs.declared.layout.Layout.{Layout}
+use Rattle.pr_cdb.specs.declared.layout.Layout.TheVariants.{TestUnitReady, RequestSense, Read, Write, ReserveIn, ReserveOut}
 use Rattle.pr_cdb.specs.declared.wire.Wire.{Wire}
 use Rattle.pr_cdb.specs.Kinds.{code_of}
 
@@ -41,41 +45,62 @@ reserve_out action kind rk sark =
 abbrev pub kind_byte : Option Kind → ℕ
 kind_byte kind = option_map_or code_of kind 0
 
+-- a command by its operation code, with the fields that it sends: a key that its service action does not name is zero, and a type
+-- that it does not is none
+abbrev pub layout_of : Command → Layout
+layout_of command.TestUnitReady = TestUnitReady
+layout_of command.RequestSense = RequestSense
+layout_of (command.Read lba blocks) = Read lba blocks
+layout_of (command.Write lba blocks) = Write lba blocks
+layout_of (command.ReadKeys alloc) = ReserveIn action.ReadKeys alloc
+layout_of (command.ReadReservation alloc) = ReserveIn action.ReadReservation alloc
+layout_of (command.ReportCapabilities alloc) = ReserveIn action.ReportCapabilities alloc
+layout_of (command.Register rk sark) = ReserveOut action.Register None rk sark
+layout_of (command.RegisterIgnore sark) = ReserveOut action.RegisterIgnore None 0 sark
+layout_of (command.Reserve rk kind) = ReserveOut action.Reserve (Some kind) rk 0
+layout_of (command.Release rk kind) = ReserveOut action.Release (Some kind) rk 0
+layout_of (command.Clear rk) = ReserveOut action.Clear None rk 0
+layout_of (command.Preempt rk sark kind) = ReserveOut action.Preempt kind rk sark
+layout_of (command.PreemptAbort rk sark kind) = ReserveOut action.PreemptAbort kind rk sark
+
+-- the number of a service action
+abbrev pub action_number : ServiceAction → ℕ
+action_number action.ReadKeys = READ_KEYS
+action_number action.ReadReservation = READ_RESERVATION
+action_number action.ReportCapabilities = REPORT_CAPABILITIES
+action_number action.Register = REGISTER
+action_number action.RegisterIgnore = REGISTER_AND_IGNORE_EXISTING_KEY
+action_number action.Reserve = RESERVE
+action_number action.Release = RELEASE
+action_number action.Clear = CLEAR
+action_number action.Preempt = PREEMPT
+action_number action.PreemptAbort = PREEMPT_AND_ABORT
+
 -- how the standards tell commands apart: by the operation code, and the service action where there is one
+abbrev pub layout_codes : Layout → List ℕ
+layout_codes TestUnitReady = TEST_UNIT_READY ∷ []
+layout_codes RequestSense = REQUEST_SENSE ∷ []
+layout_codes (Read lba blocks) = READ_10 ∷ []
+layout_codes (Write lba blocks) = WRITE_10 ∷ []
+layout_codes (ReserveIn action alloc) = PERSISTENT_RESERVE_IN ∷ action_number action ∷ []
+layout_codes (ReserveOut action kind rk sark) = PERSISTENT_RESERVE_OUT ∷ action_number action ∷ []
+
 abbrev pub command_codes : Command → List ℕ
-command_codes TestUnitReady = TEST_UNIT_READY ∷ []
-command_codes RequestSense = REQUEST_SENSE ∷ []
-command_codes (Read lba blocks) = READ_10 ∷ []
-command_codes (Write lba blocks) = WRITE_10 ∷ []
-command_codes (ReadKeys alloc) = PERSISTENT_RESERVE_IN ∷ READ_KEYS ∷ []
-command_codes (ReadReservation alloc) = PERSISTENT_RESERVE_IN ∷ READ_RESERVATION ∷ []
-command_codes (ReportCapabilities alloc) = PERSISTENT_RESERVE_IN ∷ REPORT_CAPABILITIES ∷ []
-command_codes (Register rk sark) = PERSISTENT_RESERVE_OUT ∷ REGISTER ∷ []
-command_codes (RegisterIgnore sark) = PERSISTENT_RESERVE_OUT ∷ REGISTER_AND_IGNORE_EXISTING_KEY ∷ []
-command_codes (Reserve rk kind) = PERSISTENT_RESERVE_OUT ∷ RESERVE ∷ []
-command_codes (Release rk kind) = PERSISTENT_RESERVE_OUT ∷ RELEASE ∷ []
-command_codes (Clear rk) = PERSISTENT_RESERVE_OUT ∷ CLEAR ∷ []
-command_codes (Preempt rk sark kind) = PERSISTENT_RESERVE_OUT ∷ PREEMPT ∷ []
-command_codes (PreemptAbort rk sark kind) = PERSISTENT_RESERVE_OUT ∷ PREEMPT_AND_ABORT ∷ []
+command_codes c = layout_codes (layout_of c)
 
 abbrev pub operation_code : Command → ℕ
 operation_code c = slice_index (command_codes c) 0
 
+abbrev pub laid_out : Layout → Wire
+laid_out TestUnitReady = six TEST_UNIT_READY 0
+laid_out RequestSense = six REQUEST_SENSE FIXED_SENSE_LENGTH
+laid_out (Read lba blocks) = transfer READ_10 lba blocks
+laid_out (Write lba blocks) = transfer WRITE_10 lba blocks
+laid_out (ReserveIn action alloc) = reserve_in (action_number action) alloc
+laid_out (ReserveOut action kind rk sark) = reserve_out (action_number action) (kind_byte kind) rk sark
+
 unfoldable pub spelling : Command → Wire
-spelling TestUnitReady = six TEST_UNIT_READY 0
-spelling RequestSense = six REQUEST_SENSE FIXED_SENSE_LENGTH
-spelling (Read lba blocks) = transfer READ_10 lba blocks
-spelling (Write lba blocks) = transfer WRITE_10 lba blocks
-spelling (ReadKeys alloc) = reserve_in READ_KEYS alloc
-spelling (ReadReservation alloc) = reserve_in READ_RESERVATION alloc
-spelling (ReportCapabilities alloc) = reserve_in REPORT_CAPABILITIES alloc
-spelling (Register rk sark) = reserve_out REGISTER 0 rk sark
-spelling (Reserve rk kind) = reserve_out RESERVE (code_of kind) rk 0
-spelling (Release rk kind) = reserve_out RELEASE (code_of kind) rk 0
-spelling (Clear rk) = reserve_out CLEAR 0 rk 0
-spelling (Preempt rk sark kind) = reserve_out PREEMPT (kind_byte kind) rk sark
-spelling (PreemptAbort rk sark kind) = reserve_out PREEMPT_AND_ABORT (kind_byte kind) rk sark
-spelling (RegisterIgnore sark) = reserve_out REGISTER_AND_IGNORE_EXISTING_KEY 0 0 sark
+spelling c = laid_out (layout_of c)
 
 -- what is written begins with the codes of the command
 abbrev pub BeginsWithCodes : Command → Wire → Type 0

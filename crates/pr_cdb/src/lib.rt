@@ -8,9 +8,11 @@
 //! Nothing here takes memory.
 #![tactic(auto)]
 
+mod action;
 pub mod codes;
 mod command;
 mod laws;
+mod layout;
 mod parameter_data;
 mod reading;
 mod reply;
@@ -18,10 +20,12 @@ mod sense_data;
 mod wire;
 mod writing;
 
+pub use action::{ActionRow, Direction, Field, ServiceAction};
 pub use command::{Command, Kind};
 pub use laws::{
     in_range, lengths_agree, operation_codes_agree, sense_codes_agree, service_actions_agree,
 };
+pub use layout::Layout;
 pub use parameter_data::{capabilities, holder_of, keys_data, keys_of, reservation_data};
 pub use reading::{decode, reads_in_range, service_action_in, service_action_out};
 pub use reply::{Reply, Sense, Status};

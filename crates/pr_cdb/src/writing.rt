@@ -1,29 +1,29 @@
 //! Writing a command's bytes.
 
-ghost use Rattle.std.specs.Prelude.{◌≡◌, ◌≤◌, ◌<◌, length};
+ghost use Rattle.std.specs.Prelude.{◌≡◌, length, take};
 ghost use Rattle.pr_cdb.specs.Requests.{plain_request, request_of_wire};
 ghost use Rattle.pr_cdb.specs.Ranges.{Fits};
-ghost use Rattle.pr_cdb.specs.Spelling.{spelling, BeginsWithCodes, wire_of, kind_byte, six, transfer, reserve_in, reserve_out};
+ghost use Rattle.pr_cdb.specs.Spelling.{spelling, laid_out, layout_codes, BeginsWithCodes, kind_byte, six, transfer, reserve_in, reserve_out};
 
 use crate::codes::{
-    CLEAR, FIXED_SENSE_LENGTH, PARAMETER_LIST_LENGTH, PERSISTENT_RESERVE_IN,
-    PERSISTENT_RESERVE_OUT, PREEMPT, PREEMPT_AND_ABORT, READ_10, READ_KEYS, READ_RESERVATION,
-    REGISTER, REGISTER_AND_IGNORE_EXISTING_KEY, RELEASE, REPORT_CAPABILITIES, REQUEST_SENSE,
-    RESERVE, TEST_UNIT_READY, WRITE_10,
+    FIXED_SENSE_LENGTH, PARAMETER_LIST_LENGTH, PERSISTENT_RESERVE_IN, PERSISTENT_RESERVE_OUT,
+    READ_10, REQUEST_SENSE, TEST_UNIT_READY, WRITE_10,
 };
 use crate::command::{Command, Kind};
+use crate::layout::Layout;
 use crate::wire::{Wire, copied};
 use byteorder::{BigEndian, ByteOrder};
 
 /// The bytes of a command, with zero in every field that the command does not name.
 ///
 /// What is written is read as the very command.
+#[tactic(auto, unfolding(crate::specs::Spelling::spelling))]
 pub fn encode(command: &Command) -> Wire
     ensures bytes { result ≡ spelling command.now }
     ensures codes { BeginsWithCodes command.now result }
     ensures read_again { request_of_wire result ≡ plain_request command.now }
 {
-    wire_of(*command)
+    laid_out(command.layout())
 }
 
 /// What is written of a command whose fields are in their types' ranges is read as that command.
@@ -31,38 +31,22 @@ pub fn reads_what_is_written()
     ensures { (c : Command) → Fits c → request_of_wire (spelling c) ≡ plain_request c }
 {}
 
-// The bytes, and that the fields are in range, as each arm knows.
-#[tactic(auto, unfolding(crate::specs::Spelling::spelling))]
-fn wire_of(command: Command) -> Wire
-    ensures bytes { result ≡ spelling command }
-    ensures codes { BeginsWithCodes command result }
-    ensures fits { Fits command }
+fn laid_out(layout: Layout) -> Wire
+    ensures bytes { result ≡ laid_out layout }
+    ensures codes { take (length (layout_codes layout)) result.cdb.items ≡ layout_codes layout }
 {
-    match command {
-        Command::TestUnitReady => six(TEST_UNIT_READY, 0),
-        Command::RequestSense => six(REQUEST_SENSE, FIXED_SENSE_LENGTH as u8),
-        Command::Read { lba, blocks } => transfer(READ_10, lba, blocks),
-        Command::Write { lba, blocks } => transfer(WRITE_10, lba, blocks),
-        Command::ReadKeys { alloc } => reserve_in(READ_KEYS, alloc),
-        Command::ReadReservation { alloc } => reserve_in(READ_RESERVATION, alloc),
-        Command::ReportCapabilities { alloc } => reserve_in(REPORT_CAPABILITIES, alloc),
-        Command::Register { rk, sark } => reserve_out(REGISTER, 0, rk, sark),
-        Command::Reserve { rk, kind } => reserve_out(RESERVE, kind.code(), rk, 0),
-        Command::Release { rk, kind } => reserve_out(RELEASE, kind.code(), rk, 0),
-        Command::Clear { rk } => reserve_out(CLEAR, 0, rk, 0),
-        Command::Preempt { rk, sark, kind } => reserve_out(PREEMPT, kind_byte(kind), rk, sark),
-        Command::PreemptAbort { rk, sark, kind } => reserve_out(
-            PREEMPT_AND_ABORT,
-            kind_byte(kind),
+    match layout {
+        Layout::TestUnitReady => six(TEST_UNIT_READY, 0),
+        Layout::RequestSense => six(REQUEST_SENSE, FIXED_SENSE_LENGTH as u8),
+        Layout::Read { lba, blocks } => transfer(READ_10, lba, blocks),
+        Layout::Write { lba, blocks } => transfer(WRITE_10, lba, blocks),
+        Layout::ReserveIn { action, alloc } => reserve_in(action.row().number, alloc),
+        Layout::ReserveOut {
+            action,
+            kind,
             rk,
             sark,
-        ),
-        Command::RegisterIgnore { sark } => reserve_out(
-            REGISTER_AND_IGNORE_EXISTING_KEY,
-            0,
-            0,
-            sark,
-        ),
+        } => reserve_out(action.row().number, kind_byte(kind), rk, sark),
     }
 }
 

@@ -5,10 +5,13 @@ unfoldable use Rattle.pr_cdb.specs.Spelling.{spelling}
 use Rattle.std.proofs.Common.{◌/◌, ◌%◌, ◌^◌}
 use Rattle.std.specs.Int.{w16, w32, w64, byte_at, bytes_high_first, to_be_bytes}
 use Rattle.pr_cdb.specs.declared.command.Kind.TheVariants.{WriteExclusive}
-use Rattle.pr_cdb.specs.declared.command.Command.TheVariants.{TestUnitReady, RequestSense, Read, Write, ReadKeys, ReadReservation, ReportCapabilities, Register, RegisterIgnore, Reserve, Release, Clear, Preempt, PreemptAbort}
+use Rattle.pr_cdb.specs.declared.action.ServiceAction.{ServiceAction}
+use Rattle.pr_cdb.specs.declared.action.ServiceAction.TheVariants.{ReadKeys}
+use Rattle.pr_cdb.specs.declared.layout.Layout.{Layout}
+use Rattle.pr_cdb.specs.declared.layout.Layout.TheVariants.{TestUnitReady, RequestSense, Read, Write, ReserveIn, ReserveOut}
 use Rattle.pr_cdb.specs.Kinds.{code_of}
 use Rattle.pr_cdb.specs.Requests.{AreBytes}
-use Rattle.pr_cdb.specs.Spelling.{kind_byte, transfer, reserve_in, reserve_out}
+use Rattle.pr_cdb.specs.Spelling.{action_number, kind_byte, laid_out, layout_of, transfer, reserve_in, reserve_out}
 
 pub none : AreBytes []
 none i = omega arith
@@ -69,24 +72,26 @@ told action kind rk sark small also =
     let keys = both (to_be_bytes w64 rk) (to_be_bytes w64 sark) (number 8 rk) (number 8 sark) in
     (cdb, both (to_be_bytes w64 rk ++ to_be_bytes w64 sark) (0 ∷ 0 ∷ 0 ∷ 0 ∷ 0 ∷ 0 ∷ 0 ∷ 0 ∷ []) keys (literal (0 ∷ 0 ∷ 0 ∷ 0 ∷ 0 ∷ 0 ∷ 0 ∷ 0 ∷ []) refl))
 
+number_small : (action : ServiceAction) → action_number action < 256
+number_small ReadKeys = omega arith
+number_small _ = omega arith
+
+laid_out_in_bytes : (layout : Layout) → AreBytes (laid_out layout).cdb.items × AreBytes (laid_out layout).params.items
+laid_out_in_bytes TestUnitReady = (literal (0 ∷ 0 ∷ 0 ∷ 0 ∷ 0 ∷ 0 ∷ []) refl, none)
+laid_out_in_bytes RequestSense = (literal (3 ∷ 0 ∷ 0 ∷ 0 ∷ 18 ∷ 0 ∷ []) refl, none)
+laid_out_in_bytes (Read lba blocks) = transferred 0x28 lba blocks (omega arith)
+laid_out_in_bytes (Write lba blocks) = transferred 0x2a lba blocks (omega arith)
+laid_out_in_bytes (ReserveIn action alloc) = asked (action_number action) alloc (number_small action)
+laid_out_in_bytes (ReserveOut action kind rk sark) = told (action_number action) (kind_byte kind) rk sark (number_small action) (kind_small kind)
+
 pub are_bytes : (c : Command) → AreBytes (spelling c).cdb.items × AreBytes (spelling c).params.items
 unfolding spelling
-are_bytes TestUnitReady = (literal (0 ∷ 0 ∷ 0 ∷ 0 ∷ 0 ∷ 0 ∷ []) refl, none)
-are_bytes RequestSense = (literal (3 ∷ 0 ∷ 0 ∷ 0 ∷ 18 ∷ 0 ∷ []) refl, none)
-are_bytes (Read lba blocks) = transferred 0x28 lba blocks (omega arith)
-are_bytes (Write lba blocks) = transferred 0x2a lba blocks (omega arith)
-are_bytes (ReadKeys alloc) = asked 0x00 alloc (omega arith)
-are_bytes (ReadReservation alloc) = asked 0x01 alloc (omega arith)
-are_bytes (ReportCapabilities alloc) = asked 0x02 alloc (omega arith)
-are_bytes (Register rk sark) = told 0x00 0 rk sark (omega arith) (omega arith)
-are_bytes (Reserve rk kind) = told 0x01 (code_of kind) rk 0 (omega arith) (code_small kind)
-are_bytes (Release rk kind) = told 0x02 (code_of kind) rk 0 (omega arith) (code_small kind)
-are_bytes (Clear rk) = told 0x03 0 rk 0 (omega arith) (omega arith)
-are_bytes (Preempt rk sark kind) = told 0x04 (kind_byte kind) rk sark (omega arith) (kind_small kind)
-are_bytes (PreemptAbort rk sark kind) = told 0x05 (kind_byte kind) rk sark (omega arith) (kind_small kind)
-are_bytes (RegisterIgnore sark) = told 0x06 0 0 sark (omega arith) (omega arith)
+are_bytes c = laid_out_in_bytes (layout_of c)
+
+laid_out_short : (layout : Layout) → (length (laid_out layout).cdb.items ≤ MOST_CDB_LENGTH) × (length (laid_out layout).params.items ≤ PARAMETER_LIST_LENGTH)
+laid_out_short TestUnitReady = (omega arith, omega arith)
+laid_out_short _ = (omega arith, omega arith)
 
 pub are_short : (c : Command) → (length (spelling c).cdb.items ≤ MOST_CDB_LENGTH) × (length (spelling c).params.items ≤ PARAMETER_LIST_LENGTH)
 unfolding spelling
-are_short TestUnitReady = (omega arith, omega arith)
-are_short _ = (omega arith, omega arith)
+are_short c = laid_out_short (layout_of c)
