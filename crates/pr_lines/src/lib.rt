@@ -22,6 +22,6 @@ pub use cutting::{is_text, next_line, next_word};
 pub use item::{RefusalKind, ScenarioLine, StartReservation, item_of};
 pub use keyword::{KEYWORDS, Keyword, keyword_of};
 pub use misfit::{Misfit, Wanted};
-pub use options::{ACTIONS, DIRECTIONS};
+pub use options::DIRECTIONS;
 pub use spelling::ParsedCommand;
 pub use terms::{amount_of, key_or_zero, name_of, value_after};

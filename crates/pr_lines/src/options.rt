@@ -3,57 +3,19 @@
 ghost use Rattle.std.specs.Prelude.{◌≡◌, ◌∷◌, option_and_then};
 ghost use Rattle.std.specs.Result.{result_ok};
 ghost use Rattle.pr_lines.specs.TextLines.{words};
-ghost use Rattle.pr_lines.specs.CommandOptions.{key_after, option_of, with_option, with_options, no_option, command_out, command_of};
+ghost use Rattle.pr_lines.specs.CommandOptions.{action_of, key_after, option_of, with_option, with_options, no_option};
 
 use crate::cutting::next_word;
 use crate::lookup::lookup;
 use crate::misfit::{Misfit, Wanted};
 use crate::terms::{key_or_zero, kind_of, value_after};
-use pr_cdb::codes::{
-    CLEAR, PREEMPT, PREEMPT_AND_ABORT, READ_KEYS, READ_RESERVATION, REGISTER,
-    REGISTER_AND_IGNORE_EXISTING_KEY, RELEASE, REPORT_CAPABILITIES, RESERVE,
-};
-use pr_cdb::{Command, Kind, service_action_in, service_action_out};
+use pr_cdb::{Command, Direction, Kind, ServiceAction, service_action_in, service_action_out};
 use pr_script::WRITTEN_LENGTH;
-
-/// The direction of a command's data: `--in` or `--out`.
-#[derive(Clone, Copy, PartialEq, Eq)]
-pub enum Direction {
-    In,
-    Out,
-}
-
-/// A service action, by its number.
-#[derive(Clone, Copy, PartialEq, Eq)]
-pub enum ServiceAction {
-    In(u8),
-    Out(u8),
-}
 
 /// The options for the direction of the data, of which each command names one.
 pub const DIRECTIONS: [(&[u8], Direction); 2] = [
     (b"--in", Direction::In),
     (b"--out", Direction::Out),
-];
-
-/// The options for the service actions.
-pub const ACTIONS: [(&[u8], ServiceAction); 10] = [
-    (b"--read-keys", ServiceAction::In(READ_KEYS)),
-    (b"--read-reservation", ServiceAction::In(READ_RESERVATION)),
-    (
-        b"--report-capabilities",
-        ServiceAction::In(REPORT_CAPABILITIES),
-    ),
-    (b"--register", ServiceAction::Out(REGISTER)),
-    (
-        b"--register-ignore",
-        ServiceAction::Out(REGISTER_AND_IGNORE_EXISTING_KEY),
-    ),
-    (b"--reserve", ServiceAction::Out(RESERVE)),
-    (b"--release", ServiceAction::Out(RELEASE)),
-    (b"--clear", ServiceAction::Out(CLEAR)),
-    (b"--preempt", ServiceAction::Out(PREEMPT)),
-    (b"--preempt-abort", ServiceAction::Out(PREEMPT_AND_ABORT)),
 ];
 
 /// One option of a command.
@@ -80,7 +42,7 @@ impl Written {
     ghost use Rattle.std.specs.Prelude.{◌≡◌, ◌&&◌, is_none};
     ghost use Rattle.std.specs.Result.{result_ok};
     ghost use Rattle.pr_lines.specs.TextLines.{words};
-    ghost use Rattle.pr_lines.specs.CommandOptions.{no_option, with_option, with_options, command_of};
+    ghost use Rattle.pr_lines.specs.CommandOptions.{no_option, with_option, with_options, command_in, command_out, command_of};
 
     /// Nothing is written.
     pub fn new() -> Self
@@ -128,24 +90,37 @@ impl Written {
     {
         let direction = self.direction.ok_or(Misfit::missing(Wanted::Direction))?;
         let action = self.action.ok_or(Misfit::missing(Wanted::ServiceAction))?;
-        match (direction, action) {
-            (Direction::In, ServiceAction::In(action)) if self.is_bare() => {
-                service_action_in(action, WRITTEN_LENGTH).ok_or(Misfit::missing(
-                    Wanted::ServiceAction,
-                ))
-            }
-            (Direction::In, ServiceAction::In(_)) => Err(Misfit::missing(Wanted::NoParameter)),
-            (Direction::Out, ServiceAction::Out(action)) => command_out(
-                action,
-                self.rk.unwrap_or(0),
-                self.sark.unwrap_or(0),
-                self.kind,
-            )
-            .ok_or(Misfit::missing(Wanted::Type)),
-            (Direction::In, ServiceAction::Out(_)) | (Direction::Out, ServiceAction::In(_)) => {
-                Err(Misfit::missing(Wanted::OtherDirection))
-            }
+        if action.row().direction != direction {
+            return Err(Misfit::missing(Wanted::OtherDirection));
         }
+        match direction {
+            Direction::In => self.command_in(action),
+            Direction::Out => self.command_out(action),
+        }
+    }
+
+    // The commands of `--in`, which have neither a key nor a type.
+    fn command_in(&self, action: ServiceAction) -> Result<Command, Misfit>
+        ensures { result_ok result ≡ command_in action self.now }
+    {
+        if !self.is_bare() {
+            return Err(Misfit::missing(Wanted::NoParameter));
+        }
+        service_action_in(action.row().number, WRITTEN_LENGTH).ok_or(Misfit::missing(
+            Wanted::ServiceAction,
+        ))
+    }
+
+    // The commands of `--out`. Where a type counts one has to be written.
+    fn command_out(&self, action: ServiceAction) -> Result<Command, Misfit>
+        ensures { result_ok result ≡ command_out action self.now }
+    {
+        let row = action.row();
+        if self.kind.is_none() && row.has_type() {
+            return Err(Misfit::missing(Wanted::Type));
+        }
+        let (rk, sark) = (self.rk.unwrap_or(0), self.sark.unwrap_or(0));
+        service_action_out(row.number, self.kind, rk, sark).ok_or(Misfit::missing(Wanted::Type))
     }
 }
 
@@ -180,7 +155,7 @@ fn option_of(word: &[u8]) -> Option<CommandOption>
     if let Some(direction) = lookup(&DIRECTIONS, word) {
         return Some(CommandOption::Direction(direction));
     }
-    if let Some(action) = lookup(&ACTIONS, word) {
+    if let Some(action) = action_of(word) {
         return Some(CommandOption::Action(action));
     }
     if let Some(rk) = key_after("--param-rk=", word) {
@@ -193,18 +168,18 @@ fn option_of(word: &[u8]) -> Option<CommandOption>
     Some(CommandOption::Kind(kind))
 }
 
+// The service action that the word names.
+fn action_of(word: &[u8]) -> Option<ServiceAction>
+    ensures { result ≡ action_of word.now }
+{
+    ServiceAction::ALL
+        .iter()
+        .copied()
+        .find(|action| word == action.row().option)
+}
+
 fn key_after(name: &str, word: &[u8]) -> Option<u64>
     ensures { result ≡ key_after name.now word.now }
 {
     key_or_zero(value_after(name, word)?)
-}
-
-// The commands of `--out`. A PREEMPT needs a type too.
-fn command_out(action: u8, rk: u64, sark: u64, kind: Option<Kind>) -> Option<Command>
-    ensures { result ≡ command_out action rk sark kind }
-{
-    if (action == PREEMPT || action == PREEMPT_AND_ABORT) && kind.is_none() {
-        return None;
-    }
-    service_action_out(action, kind, rk, sark)
 }
