@@ -1,71 +1,73 @@
 //! Commands in words.
 
 use crate::saying::put_filled;
-use pr_cdb::{Command, Kind, Request, Wire, decode};
+use pr_cdb::{Command, Field, Kind, Layout, Request, ServiceAction, Wire, decode};
 use pr_output::{Token, WriteFault, put};
 use std::io::Write;
 
 /// Writes a command: what the standard calls it, and its fields that count, as `REGISTER rk 0 sark b2`. Keys are in
 /// hexadecimal digits without leading zeros, blocks in decimal ones.
 pub fn put_command<W: Write>(writer: &mut W, command: &Command) -> Result<(), WriteFault> {
-    put(writer, name(command))?;
-    put_fields(writer, command)
-}
-
-fn name(command: &Command) -> &'static [u8] {
-    match *command {
-        Command::TestUnitReady => b"TEST UNIT READY",
-        Command::RequestSense => b"REQUEST SENSE",
-        Command::Read { .. } => b"READ",
-        Command::Write { .. } => b"WRITE",
-        Command::ReadKeys { .. } => b"READ KEYS",
-        Command::ReadReservation { .. } => b"READ RESERVATION",
-        Command::ReportCapabilities { .. } => b"REPORT CAPABILITIES",
-        Command::Register { .. } => b"REGISTER",
-        Command::RegisterIgnore { .. } => b"REGISTER AND IGNORE EXISTING KEY",
-        Command::Reserve { .. } => b"RESERVE",
-        Command::Release { .. } => b"RELEASE",
-        Command::Clear { .. } => b"CLEAR",
-        Command::Preempt { .. } => b"PREEMPT",
-        Command::PreemptAbort { .. } => b"PREEMPT AND ABORT",
+    match command.layout() {
+        Layout::TestUnitReady => put(writer, b"TEST UNIT READY"),
+        Layout::RequestSense => put(writer, b"REQUEST SENSE"),
+        Layout::Read { lba, blocks } => put_blocks(writer, b"READ", lba, blocks),
+        Layout::Write { lba, blocks } => put_blocks(writer, b"WRITE", lba, blocks),
+        Layout::ReserveIn { action, .. } => put(writer, action.row().name),
+        Layout::ReserveOut {
+            action,
+            kind,
+            rk,
+            sark,
+        } => put_action(writer, action, kind, rk, sark),
     }
 }
 
-fn put_fields<W: Write>(writer: &mut W, command: &Command) -> Result<(), WriteFault> {
-    match *command {
-        Command::TestUnitReady
-        | Command::RequestSense
-        | Command::ReadKeys { .. }
-        | Command::ReadReservation { .. }
-        | Command::ReportCapabilities { .. } => Ok(()),
-        Command::Read { lba, blocks } | Command::Write { lba, blocks } => {
-            let (blocks, lba) = (u64::from(blocks), u64::from(lba));
-            put_filled(
-                writer,
-                b" {} blocks from {}",
-                &[Token::Number(blocks), Token::Number(lba)],
-            )
+fn put_blocks<W: Write>(
+    writer: &mut W,
+    name: &[u8],
+    lba: u32,
+    blocks: u16,
+) -> Result<(), WriteFault> {
+    let (blocks, lba) = (u64::from(blocks), u64::from(lba));
+    put_filled(
+        writer,
+        b"{} {} blocks from {}",
+        &[Token::Text(name), Token::Number(blocks), Token::Number(lba)],
+    )
+}
+
+fn put_action<W: Write>(
+    writer: &mut W,
+    action: ServiceAction,
+    kind: Option<Kind>,
+    rk: u64,
+    sark: u64,
+) -> Result<(), WriteFault> {
+    let row = action.row();
+    put(writer, row.name)?;
+    for field in [Field::Kind, Field::Rk, Field::Sark] {
+        if row.fields.contains(&field) {
+            put_field(writer, field, kind, rk, sark)?;
         }
-        Command::Register { rk, sark } => {
-            put_filled(
-                writer,
-                b" rk {} sark {}",
-                &[Token::Key(rk), Token::Key(sark)],
-            )
-        }
-        Command::RegisterIgnore { sark } => put_filled(writer, b" sark {}", &[Token::Key(sark)]),
-        Command::Reserve { rk, kind } | Command::Release { rk, kind } => {
-            put_filled(writer, b" type {} rk {}", &[type_of(kind), Token::Key(rk)])
-        }
-        Command::Clear { rk } => put_filled(writer, b" rk {}", &[Token::Key(rk)]),
-        Command::Preempt { rk, sark, kind } | Command::PreemptAbort { rk, sark, kind } => {
+    }
+    Ok(())
+}
+
+fn put_field<W: Write>(
+    writer: &mut W,
+    field: Field,
+    kind: Option<Kind>,
+    rk: u64,
+    sark: u64,
+) -> Result<(), WriteFault> {
+    match field {
+        Field::Kind => {
             let kind = kind.map_or(Token::Text(b"none"), type_of);
-            put_filled(
-                writer,
-                b" type {} rk {} sark {}",
-                &[kind, Token::Key(rk), Token::Key(sark)],
-            )
+            put_filled(writer, b" type {}", &[kind])
         }
+        Field::Rk => put_filled(writer, b" rk {}", &[Token::Key(rk)]),
+        Field::Sark => put_filled(writer, b" sark {}", &[Token::Key(sark)]),
     }
 }
 
