@@ -2,13 +2,13 @@
 
 ghost use Rattle.std.specs.Prelude.{◌≡◌, true, IsTrue};
 ghost use Rattle.std.specs.List.{All};
-ghost use Rattle.pr_script.specs.Grammar.{has_sense_digit, test_fits};
+ghost use Rattle.pr_script.specs.Grammar.{test_fits};
 
 use pr_cdb::Command;
 use pr_domain::{outcomes, permitted};
 use pr_roles::{Nexus, Refusals, Scenario};
 use pr_script::limits::MOST_ARMS;
-use pr_script::{Class, Landing, Test, is_test_declared, is_written, stands_under};
+use pr_script::{Class, Landing, Test, is_written, test_fits};
 use pr_verify::{Refusal, Row, Table};
 use pr_views::{Possibilities, View};
 use std::alloc::{AllocError, Global};
@@ -107,21 +107,5 @@ pub(crate) fn is_uncounted(class: Class) -> bool {
 fn fit(keys: &[u64], command: Command, tests: &[Test]) -> bool
     ensures { IsTrue result → All (λ t. test_fits keys.now command t ≡ true) tests.now }
 {
-    tests.iter().all(|test| fits(keys, command, *test))
-}
-
-fn fits(keys: &[u64], command: Command, test: Test) -> bool
-    ensures { result ≡ test_fits keys.now command test }
-{
-    has_sense_digit(test) && stands_under(command, test) && is_test_declared(keys, test)
-}
-
-// A sense key that the test asks for has one hexadecimal digit.
-fn has_sense_digit(test: Test) -> bool
-    ensures { result ≡ has_sense_digit test }
-{
-    match test {
-        Test::Sense(sense) => sense.key < 16,
-        _ => true,
-    }
+    tests.iter().all(|test| test_fits(keys, command, *test))
 }

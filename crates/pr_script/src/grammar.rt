@@ -131,7 +131,8 @@ fn begins_body(body: &Script) -> bool
     }
 }
 
-fn test_fits(keys: &[u64], command: Command, test: Test) -> bool
+/// Whether an arm with this test may stand under the command in a text that declares these keys.
+pub fn test_fits(keys: &[u64], command: Command, test: Test) -> bool
     ensures { result ≡ test_fits keys.now command test }
 {
     has_sense_digit(test) && stands_under(command, test) && is_test_declared(keys, test)

@@ -30,6 +30,7 @@ pub use depth::repeat_depth;
 pub use digits::{byte_of, digit_of, digit_value};
 pub use grammar::{
     WRITTEN_LENGTH, is_declared, is_test_declared, is_written, is_written_key, stands_under,
+    test_fits,
 };
 pub use landing::{Class, Landing};
 pub use laws::{cost_bounds_sends, fitting_is_shallow, limits_agree, settles};
