@@ -1,9 +1,11 @@
 -- The first start: that it is allowed, and that it is there where some state is allowed.
-use Rattle.pr_roles.proofs.Common.{◌≡◌, ℕ, zero, suc, ◌+◌, ◌<◌, Bool, true, false, cond, not, ◌⊎◌, List, [], ◌∷◌, map, length, is_some, ◌==◌, slice_get, slice_index_or, Some, None, Contains, Option, option_map, sym, refl, ap, ◌∙◌, subst, inl, inr, arith, list_all, false≢true, and_parts, none-some, same_Some, slice_get-map, IsKey, Starts, first_of, first_key, start_of, slice_get_within, ◌||◌}
+use Rattle.pr_roles.proofs.Common.{◌≡◌, ℕ, zero, suc, ◌+◌, ◌<◌, Bool, true, false, cond, not, ◌⊎◌, List, [], ◌∷◌, map, length, is_some, ◌==◌, slice_get, slice_index_or, Some, None, Contains, Option, option_map, sym, refl, ap, ◌∙◌, subst, inl, inr, arith, list_all, false≢true, none-some, same_Some, slice_get-map, IsKey, Starts, first_of, first_key, start_of, slice_get_within, ◌||◌}
 use Rattle.std.specs.List.{position_from, All}
 use Rattle.std.proofs.Common.{◌≢◌, position, slice_set}
 use Rattle.std.proofs.lemmas.Bool.Decides.{eqb_tells}
 use Rattle.std.proofs.lemmas.Iterator.Adapters.{position_from-zero}
+use Rattle.std.proofs.lemmas.List.Elements.{All-contains, Contains-append_right}
+use Rattle.std.proofs.lemmas.List.Sums.{AllPass-from_list_all}
 use Rattle.std.proofs.lemmas.Option.{get_or_from_slice_get}
 use Rattle.pr_script.specs.Grammar.{is_declared}
 use Rattle.pr_roles.specs.declared.parts.Nexus.{Nexus as NexusPart}
@@ -25,20 +27,12 @@ start_at ns h = slice_get-map start_of ns h
 
 -- ---- elements
 
-pub contains_more : {X : Type 0} (y : X) (xs : List X) (x : X) → Contains xs x → Contains (y ∷ xs) x
-contains_more y xs x there = (suc there.0, omega (arith, there.1), there.2)
-
 pub contains_first : {X : Type 0} (x : X) (xs : List X) → Contains (x ∷ xs) x
 contains_first x xs = (0, omega arith, refl)
 
 -- what all pass, each element passes
 pub all_pass : {X : Type 0} (p : X → Bool) (xs : List X) (x : X) → list_all p xs ≡ true → Contains xs x → p x ≡ true
-all_pass p xs x pass there = at p xs x there.0 pass there.1 there.2
-  where
-    at : {X : Type 0} (p : X → Bool) (xs : List X) (x : X) (k : ℕ) → list_all p xs ≡ true → k < length xs → slice_index_or xs k x ≡ x → p x ≡ true
-    at p [] x k pass short is = absurd (omega (arith, short))
-    at p (y ∷ ys) x zero pass short is = ap p (sym is) ∙ (and_parts (p y) (list_all p ys) pass).0
-    at p (y ∷ ys) x (suc k) pass short is = at p ys x k (and_parts (p y) (list_all p ys) pass).1 (omega (arith, short)) is
+all_pass p xs x pass there = All-contains (λ x. p x ≡ true) xs x (AllPass-from_list_all p xs pass) there
 
 -- a declared key is one of the keys
 pub declared_key : (keys : List ℕ) (k : ℕ) → All IsKey keys → is_declared keys k ≡ true → IsKey k
@@ -94,7 +88,7 @@ firsts_chosen (ks ∷ all) offered = (first_chosen ks offered.0, firsts_chosen a
 
 pub first_key_there : (ks : List (Option ℕ)) (k : ℕ) → first_key ks ≡ Some k → Contains ks (Some k)
 first_key_there [] k is = absurd (none-some _ is)
-first_key_there (None ∷ ks) k is = contains_more None ks (Some k) (first_key_there ks k is)
+first_key_there (None ∷ ks) k is = Contains-append_right (None ∷ []) ks (Some k) (first_key_there ks k is)
 first_key_there ((Some j) ∷ ks) k is = subst (λ o. Contains ((Some j) ∷ ks) o) is (contains_first (Some j) ks)
 
 -- a key among the alternatives is enough for a first one

@@ -5,8 +5,9 @@ use Rattle.std.specs.Option.{option_or}
 use Rattle.std.specs.List.{position_from}
 use Rattle.std.proofs.lemmas.List.{get_or-set_same}
 use Rattle.std.proofs.lemmas.Iterator.Adapters.{position_from-zero}
+use Rattle.std.proofs.lemmas.List.Elements.{Contains-append_right}
 use Rattle.pr_roles.specs.FirstStarts.{with_key}
-use Rattle.pr_roles.proofs.lemmas.FirstStarts.Existence.{Chosen, chosen_length, chosen_set, AreOffered, firsts_chosen, first_key_there, first_key_found, contains_first, contains_more}
+use Rattle.pr_roles.proofs.lemmas.FirstStarts.Existence.{Chosen, chosen_length, chosen_set, AreOffered, firsts_chosen, first_key_there, first_key_found, contains_first}
 
 -- the list has a key at h
 abbrev pub HasKeyAt : List (Option ℕ) → ℕ → Type 0
@@ -110,7 +111,7 @@ first all (v ∷ vs) held keys is = at (keys_under all v) refl is (first all vs 
         let this : v ≡ held = ap (λ p. p.0) same in
         let those : ks ≡ keys = ap (λ p. p.1) same in
         record { there = subst (Contains (v ∷ vs)) this (contains_first v vs); under = ap (keys_under all) (sym this) ∙ (under ∙ ap Some those) }
-    at None under is later = let f = later is in record { there = contains_more v vs held f.there; under = f.under }
+    at None under is later = let f = later is in record { there = Contains-append_right (v ∷ []) vs held f.there; under = f.under }
 
 -- ---- that there is one
 

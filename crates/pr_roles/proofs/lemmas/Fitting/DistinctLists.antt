@@ -1,7 +1,9 @@
 -- Lists without repetition, and lists of parts.
-use Rattle.pr_roles.proofs.Common.{◌≡◌, ℕ, ◌<◌, Bool, true, false, not, ◌&&◌, List, [], ◌∷◌, map, length, slice_index_or, bytes_eq, sym, refl, ap, ◌∙◌, list_all, are_distinct, Nexus, nexus_of, list_any, length-map}
+use Rattle.pr_roles.proofs.Common.{◌≡◌, ℕ, ◌<◌, Bool, not, ◌&&◌, List, [], ◌∷◌, map, length, slice_index_or, bytes_eq, sym, refl, ap, ◌∙◌, list_all, are_distinct, Nexus, nexus_of, list_any, length-map}
 use Rattle.std.specs.Prelude.{◌||◌}
 use Rattle.std.proofs.lemmas.List.{get_or-map}
+use Rattle.std.proofs.lemmas.List.Folds.{list_all-map}
+use Rattle.std.proofs.lemmas.Simd.{map-map}
 use Rattle.pr_roles.specs.declared.parts.Nexus.{Nexus as NexusPart}
 
 any_same : {X : Type 0} (f g : X → Bool) → ((x : X) → f x ≡ g x) → (xs : List X) → list_any f xs ≡ list_any g xs
@@ -16,12 +18,10 @@ distinct_same e f same (x ∷ xs) =
     ∙ ap (λ b. not (list_any (λ y. f y x) xs) && b) (distinct_same e f same xs)
 
 pub all_of_parts : (p : Nexus → Bool) (ns : List NexusPart) → list_all p (map nexus_of ns) ≡ list_all (λ n. p (nexus_of n)) ns
-all_of_parts p [] = refl
-all_of_parts p (n ∷ ns) = ap (λ b. p (nexus_of n) && b) (all_of_parts p ns)
+all_of_parts p ns = list_all-map p nexus_of ns
 
 pub names_of_parts : (ns : List NexusPart) → map (λ n. n.name) (map nexus_of ns) ≡ map (λ n. n.name.bytes) ns
-names_of_parts [] = refl
-names_of_parts (n ∷ ns) = ap (λ l. n.name.bytes ∷ l) (names_of_parts ns)
+names_of_parts ns = map-map (λ n. n.name) nexus_of ns
 
 pub length_of_parts : (ns : List NexusPart) → length (map nexus_of ns) ≡ length ns
 length_of_parts ns = length-map ns nexus_of
@@ -33,15 +33,10 @@ any_named : (x : NexusPart) (ns : List NexusPart)
 any_named x [] = refl
 any_named x (n ∷ ns) = ap (λ b. bytes_eq n.name.bytes x.name.bytes || b) (any_named x ns)
 
--- one of the others has the name of the first
-pub named_again : (x : NexusPart) (ns : List NexusPart) → list_any (λ o. bytes_eq o.name.bytes x.name.bytes) ns ≡ true
-    → are_distinct bytes_eq (map (λ n. n.name.bytes) (x ∷ ns)) ≡ false
-named_again x ns again = ap (λ b. not b && are_distinct bytes_eq (map (λ n. n.name.bytes) ns)) (any_named x ns ∙ again)
-
--- none has
-pub named_once : (x : NexusPart) (ns : List NexusPart) → list_any (λ o. bytes_eq o.name.bytes x.name.bytes) ns ≡ false
-    → are_distinct bytes_eq (map (λ n. n.name.bytes) (x ∷ ns)) ≡ are_distinct bytes_eq (map (λ n. n.name.bytes) ns)
-named_once x ns once = ap (λ b. not b && are_distinct bytes_eq (map (λ n. n.name.bytes) ns)) (any_named x ns ∙ once)
+-- by whether one of the others has the name of the first
+pub named_apart : (x : NexusPart) (ns : List NexusPart) (b : Bool) → list_any (λ o. bytes_eq o.name.bytes x.name.bytes) ns ≡ b
+    → are_distinct bytes_eq (map (λ n. n.name.bytes) (x ∷ ns)) ≡ (not b && are_distinct bytes_eq (map (λ n. n.name.bytes) ns))
+named_apart x ns b is = ap (λ b. not b && are_distinct bytes_eq (map (λ n. n.name.bytes) ns)) (any_named x ns ∙ is)
 
 -- equal parts are equal place by place
 pub part_at : (ns ms : List NexusPart) (i : ℕ) (d e : NexusPart) → i < length ns → i < length ms → map nexus_of ns ≡ map nexus_of ms

@@ -1,6 +1,6 @@
 -- In version 1 of texts no refusal is declared.
-use Rattle.pr_roles.proofs.Common.{◌≡◌, ℕ, zero, suc, true, ◌&&◌, ◌⊎◌, List, [], ◌∷◌, nat_lt, nat_le, ◌==◌, slice_get, refl, subst, inl, inr, arith, false≢true, and_parts, nat_tests, Nexus, IsTrue, option_map_or, How}
-use Rattle.std.proofs.lemmas.Bool.{or_cases}
+use Rattle.pr_roles.proofs.Common.{◌≡◌, ℕ, zero, suc, true, ◌&&◌, ◌⊎◌, List, [], ◌∷◌, nat_le, ◌==◌, slice_get, refl, subst, inl, inr, arith, false≢true, and_parts, nat_tests, Nexus, IsTrue, option_map_or, How}
+use Rattle.std.proofs.lemmas.Bool.{or_cases, ltb-true}
 use Rattle.pr_roles.specs.declared.limits.TheConstants.{MOST_REFUSALS}
 use Rattle.pr_roles.specs.declared.how.How.TheVariants as how
 use Rattle.pr_roles.specs.Fitting.{is_count, is_task_of, are_of}
@@ -24,13 +24,10 @@ none_at (n ∷ ns) are zero =
 none_at (n ∷ ns) are (suc h) =
     none_at ns (and_parts (is_count 1 n.busy && (is_count 1 n.full && is_task_of 1 n.task)) (are_of 1 ns) are).1 h
 
-none_left : {X : Type 0} (n m : ℕ) → m ≡ 0 → nat_lt n m ≡ true → X
-none_left n m none may = absurd (grind (arith, nat_tests))
-
 pub first_version_is_plain : FirstVersionIsPlain
 first_version_is_plain s fits first es h = at (none_at s.nexuses (subst (λ v. are_of v s.nexuses ≡ true) first fits.dated) h)
   where
     at : (most_refusals s h how.Busy ≡ 0) × (most_refusals s h how.Full ≡ 0) → (k : How) → IsTrue (may_come s es h k) → k ≡ how.Plain
     at none how.Plain may = refl
-    at none how.Busy may = none_left (refusals_by es h how.Busy) (most_refusals s h how.Busy) none.0 may
-    at none how.Full may = none_left (refusals_by es h how.Full) (most_refusals s h how.Full) none.1 may
+    at none how.Busy may = absurd (omega (arith, none.0, ltb-true (refusals_by es h how.Busy) (most_refusals s h how.Busy) may))
+    at none how.Full may = absurd (omega (arith, none.1, ltb-true (refusals_by es h how.Full) (most_refusals s h how.Full) may))
