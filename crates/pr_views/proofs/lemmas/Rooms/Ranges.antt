@@ -1,9 +1,8 @@
 -- What is below a size, and possibilities that a view has room for.
-use Rattle.pr_views.proofs.Common.{◌≡◌, ℕ, ◌+◌, ◌<◌, ◌≤◌, Bool, true, false, not, ◌&&◌, ◌⊎◌, ◌↔◌, List, length, IsTrue, nat_lt, slice_index_or, sym, refl, ap, ◌∙◌, subst, inl, inr, arith, lt-ltb, le-ltb, false≢true, and_parts, cases_lt, has_wide, has, BitSet, has_at}
+use Rattle.pr_views.proofs.Common.{◌≡◌, ℕ, ◌+◌, ◌<◌, ◌≤◌, Bool, true, false, not, ◌&&◌, ◌⊎◌, ◌↔◌, List, length, IsTrue, nat_lt, sym, refl, ap, ◌∙◌, subst, inl, inr, arith, lt-ltb, le-ltb, false≢true, and_parts, cases_lt, has_wide, has, has_at}
 use Rattle.pr_views.specs.Possibilities.{count_of_reservations, count_of_attentions}
 use Rattle.pr_views.specs.Rooms.{AreInRange}
 use Rattle.pr_views.specs.declared.possibilities.Possibilities.{Possibilities}
-use Rattle.pr_views.proofs.lemmas.Rooms.Places.{holds_at-get_or, below_more}
 
 -- ---- one set
 
@@ -22,20 +21,6 @@ below_tells p left size false is empty filled = (λ yes. absurd (false≢true ye
     at all some =
         let both = and_parts (p some.0) (not (nat_lt some.0 size)) (sym (is some.0) ∙ some.1) in
         false≢true (sym (ap not (lt-ltb some.0 size (all some.0 both.0))) ∙ both.1)
-
--- ---- the first sets
-
--- one more is below the size
-pub sets_below_more : (sets : List BitSet) (size i j : ℕ) (d : BitSet) (r : Bool) → ((h n : ℕ) → h < i → has_at sets h n ≡ true → n < size) → j ≡ i → j < length sets
-    → (IsTrue r ↔ ((n : ℕ) → has (slice_index_or sets j d) n ≡ true → n < size)) → r ≡ true → (h n : ℕ) → h < i + 1 → has_at sets h n ≡ true → n < size
-sets_below_more sets size i j d r before same there tells below h n =
-    below_more (λ k. has_at sets k n ≡ true → n < size) i j (λ k. before k n) same
-    (λ has_it. tells.0 below n (sym (holds_at-get_or (λ w. has w n) sets j d there) ∙ has_it)) h
-
-pub not_all_below : (sets : List BitSet) (size count j : ℕ) (d : BitSet) (r : Bool) → j < count → j < length sets
-    → (IsTrue r ↔ ((n : ℕ) → has (slice_index_or sets j d) n ≡ true → n < size)) → r ≡ false → ((h n : ℕ) → h < count → has_at sets h n ≡ true → n < size) → ⊥
-not_all_below sets size count j d r small there tells some all =
-    false≢true (sym some ∙ tells.1 (λ n has_it. all j n small (holds_at-get_or (λ w. has w n) sets j d there ∙ has_it)))
 
 -- ---- a whole view
 

@@ -1,9 +1,8 @@
 -- What is possible in the view that a value of the program is.
-use Rattle.pr_views.proofs.Common.{◌≡◌, ℕ, ◌+◌, ◌<◌, ◌≤◌, Bool, true, false, ◌⊎◌, ◌↔◌, List, length, Some, None, Option, sym, refl, ap, ◌∙◌, subst, inl, inr, arith, slice_get, false≢true, cases_lt, has, contains-nobody, AreDeclared, has_at, Registration, Reservation, Attentions, contains_at, Fits}
+use Rattle.pr_views.proofs.Common.{◌≡◌, ℕ, ◌+◌, ◌<◌, ◌≤◌, Bool, true, false, ◌⊎◌, ◌↔◌, List, length, Some, None, Option, sym, refl, ap, ◌∙◌, subst, inl, inr, arith, slice_get, false≢true, cases_lt, has, contains-nobody, AreDeclared, has_at, Registration, Reservation, Attentions, contains_at, Fits, option_map_or}
 use Rattle.std.specs.FinSet as set
 use Rattle.std.specs.Prelude.{Result, Ok, Err, IfOk}
 use Rattle.std.specs.List.{All}
-use Rattle.std.specs.Option.{option_map_or}
 use Rattle.std.proofs.lemmas.Bool.{false_from_ne_true}
 use Rattle.std.proofs.lemmas.Option.{slice_get_within, get_or_from_slice_get}
 use Rattle.pr_cdb.specs.declared.codes.TheConstants.{MOST_NEXUSES}

@@ -1,27 +1,21 @@
-use Rattle.pr_views.proofs.Common.{◌≡◌, ℕ, ◌+◌, ◌<◌, List, [], ◌∷◌, ◌++◌, length, take, slice_index_or, sym, ap, ◌∙◌}
-use Rattle.std.proofs.lemmas.List.{map-append, take_more, take_all}
-use Rattle.pr_sets.specs.declared.view_set.ViewSet.{Ghosts as ViewSet}
+use Rattle.pr_views.proofs.Common.{ℕ, [], ◌∷◌, ◌++◌, take, sym, ap, ◌∙◌}
+use Rattle.std.proofs.lemmas.List.{map_push, map_more, take_all}
 use Rattle.pr_views.specs.Rooms.{view_of}
 use Rattle.pr_views.specs.Tables.{views_of}
 use Rattle.pr_views.specs.Views.{View}
-use Rattle.pr_views.specs.declared.view.ViewOf.{ViewOf}
 use Rattle.pr_views.proofs.outline.OutlineBy+ViewOf+S.in_sets.Goals as goal
-
--- one more is the same
-one_more : {S T : Type 0} {sets : ViewSet S} {others : ViewSet T} (host : ℕ) (made more : List (ℕ × ViewOf T others)) (views : List (ℕ × ViewOf S sets)) (i : ℕ) (e : ℕ × ViewOf S sets) (w : ViewOf T others)
-    → more ≡ made ++ (e.0, w) ∷ [] → i < length views → e ≡ slice_index_or views i e → view_of host w ≡ view_of host e.1 → views_of host made ≡ views_of host (take i views)
-    → views_of host more ≡ views_of host (take (i + 1) views)
-one_more host made more views i e w pushed small read same before =
-    ap (views_of host) pushed
-    ∙ map-append {B = ℕ × View} (λ x. (x.0, view_of host x.1)) made ((e.0, w) ∷ [])
-    ∙ (λ j. before j ++ (e.0, same j) ∷ [])
-    ∙ sym (map-append {B = ℕ × View} (λ x. (x.0, view_of host x.1)) (take i views) (e ∷ []))
-    ∙ ap (views_of host) ((λ j. take i views ++ read j ∷ []) ∙ sym (take_more views i e small))
 
 pub loop-line-preserved : goal.loop-line-preserved
 loop-line-preserved g c =
-    one_more c.args.self.now.host c.loop-line.views.items c.push.new.self.items c.deref-line-items.result.now c.loop-line.line-index c.loop-line-item.result c.in_ok-in_sets.field-0
-    c.in_ok-push.ensures.items c.loop-line-test.true c.loop-line-item.is (c.in_ok-in_sets.ensures.same c.args.self.now.host) c.loop-line.invariant
+    let host = c.args.self.now.host in
+    let views = c.deref-line-items.result.now in
+    let i = c.loop-line.line-index in
+    let e = c.loop-line-item.result in
+    ap (views_of host) c.in_ok-push.ensures.items
+    ∙ map_push {Y = ℕ × View} (λ x. (x.0, view_of host x.1)) c.loop-line.views.items (e.0, c.in_ok-in_sets.field-0)
+    ∙ (λ j. c.loop-line.invariant j ++ (e.0, c.in_ok-in_sets.ensures.same host j) ∷ [])
+    ∙ (λ j. views_of host (take i views) ++ ((c.loop-line-item.is j).0, view_of host (c.loop-line-item.is j).1) ∷ [])
+    ∙ sym (map_more {Y = ℕ × View} (λ x. (x.0, view_of host x.1)) views i e c.loop-line-test.true)
 
 pub returns : goal.returns
 returns g c =
