@@ -1,10 +1,10 @@
 use Rattle.pr_regions.proofs.Common.{ℕ, ◌≡◌, ◌≢◌, ◌<◌, ◌==◌, Bool, true, false, List, refl, unwrap_or, length, subst, sym, ◌⊎◌, inl, inr, ◌≤◌, ◌∙◌, arith, false≢true, nat_tests, BitSet, has, Transition, MOST_NEXUSES, has_at, holds_at-get_or, IsImage}
+use Rattle.std.specs.Option.{option_map_or}
 use Rattle.std.proofs.Common.{slice_index_or}
 use Rattle.std.proofs.lemmas.Bool.{cases_lt}
 use Rattle.std.proofs.lemmas.List.{length-set}
-use Rattle.pr_views.proofs.lemmas.Rooms.Places.{holds_at_past}
+use Rattle.pr_views.proofs.lemmas.Rooms.Places.{holds_at_past, more_set}
 use Rattle.pr_regions.specs.Images.{registration_left, becomes}
-use Rattle.pr_regions.proofs.lemmas.Images.Elements.{images_more}
 use Rattle.pr_regions.proofs.changed.registrations_after.Goals.{then-host-from, else-host-from}
 use Rattle.pr_regions.proofs.changed.registrations_after.Goals as goal
 
@@ -40,7 +40,8 @@ loop-host-preserved c =
           (image_at words c.loop-host.host w.without_removed.result nobody (registration_left c.args.change.now.removed) there w.without_removed.ensures))
     ] in
     record {
-      done = images_more words c.loop-host.after c.loop-host.host c.if-host-from.after (becomes c.from-from.result c.args.change.now) (omega arith) image c.loop-host.invariant.done;
+      done = more_set (λ g o. IsImage (has_at words g) (becomes c.from-from.result c.args.change.now g) (λ n. option_map_or (λ x. has x n) o false)) c.loop-host.after c.loop-host.host c.loop-host.host
+          c.if-host-from.after refl (omega arith) c.loop-host.invariant.done image;
       size = length-set c.loop-host.after c.loop-host.host c.if-host-from.after ∙ c.loop-host.invariant.size;
     }
 

@@ -1,5 +1,6 @@
 -- What is added to possibilities, step by step.
-use Rattle.pr_regions.proofs.Common.{◌≡◌, ℕ, true, ◌||◌, sym, ◌∙◌, inl, inr, ◌⊎◌, UnitState, has, Scope, Registration, has_wide, Possibilities, Item, Reservation, Attentions, IsPossible, has_at, view_in, Adds}
+use Rattle.pr_regions.proofs.Common.{◌≡◌, ℕ, ◌+◌, ◌<◌, true, ◌||◌, List, length, sym, ◌∙◌, subst, inl, inr, ◌⊎◌, get_or_default, UnitState, has, Scope, Registration, has_wide, Possibilities, Item, Reservation, Attentions, IsPossible, has_at, view_in, Adds}
+use Rattle.std.proofs.Common.{slice_index_or, below_more}
 use Rattle.std.proofs.lemmas.Bool.{or_left, or_right, or_cases}
 use Rattle.pr_regions.specs.inside.Adding.{Allows}
 
@@ -61,3 +62,19 @@ joined_either s old other new (Registration g r) joined is =
     at (inr had) = inr (is.0, had)
 joined_either s old other new (Reservation x) joined is = or_cases (has_wide old.reservations x) (has_wide other.reservations x) (sym (joined.reservations x) ∙ is)
 joined_either s old other new (Attentions q) joined is = or_cases (has old.pending q) (has other.pending q) (sym (joined.pending q) ∙ is)
+
+-- ---- one after another
+
+-- what is of one of the first numbers is of one before the last, or of the last
+pub below_or_last : (P : ℕ → Type 0) (n : ℕ) → (k : ℕ) × (k < n + 1) × P k → ((k : ℕ) × (k < n) × P k) ⊎ P n
+below_or_last P n found = below_more (λ k. P k → ((j : ℕ) × (j < n) × P j) ⊎ P n) n (λ k less is. inl (k, less, is)) inr found.0 found.1 found.2
+
+-- one of the first elements is so: at the length of the list that is Any
+abbrev pub AnyBelow : {X : Type 0} → ℕ → (X → Type 0) → List X → Type 0
+AnyBelow {X} n P xs = (k : ℕ) × (x : X) × (k < n) × (slice_index_or xs k x ≡ x) × P x
+
+-- so is one before the last of them, or the last
+pub any_or_last : {X : Type 0} (P : X → Type 0) (xs : List X) (n : ℕ) (x : X) → n < length xs → slice_index_or xs n x ≡ x → AnyBelow (n + 1) P xs → AnyBelow n P xs ⊎ P x
+any_or_last {X} P xs n x small there any =
+    below_more (λ k. (y : X) → slice_index_or xs k y ≡ y → P y → AnyBelow n P xs ⊎ P x) n (λ k less y is p. inl (k, y, less, is, p))
+    (λ y is p. inr (subst P (sym is ∙ get_or_default xs n y x small ∙ there) p)) any.0 any.2 any.1 any.3 any.4

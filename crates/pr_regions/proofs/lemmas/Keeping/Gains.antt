@@ -1,6 +1,5 @@
 -- Possibilities that others are without.
-use Rattle.pr_regions.proofs.Common.{◌≡◌, ◌≢◌, ℕ, ◌+◌, ◌<◌, true, false, ◌==◌, List, length, sym, ◌∙◌, subst, inl, inr, ◌⊎◌, arith, false≢true, eqb_tells, BitSet, has, Scope, Registration, has_wide, Possibilities, Reservation, Attentions, has_at, holds_at-get_or}
-use Rattle.std.proofs.Common.{slice_index_or}
+use Rattle.pr_regions.proofs.Common.{◌≡◌, ℕ, ◌<◌, true, false, sym, ◌∙◌, false≢true, has, Scope, Registration, has_wide, Possibilities, Reservation, Attentions, has_at}
 use Rattle.pr_regions.specs.Keeping.{IsNew}
 
 -- ---- gains
@@ -13,12 +12,3 @@ new_reservation s old new x got none = record { item = Reservation x; possible =
 
 pub new_attentions : (s : Scope) (old new : Possibilities) (q : ℕ) → has new.pending q ≡ true → has old.pending q ≡ false → IsNew s old new
 new_attentions s old new q got none = record { item = Attentions q; possible = got; not_before = λ had. false≢true (sym none ∙ had) }
-
-pub kept_at : (new old : List BitSet) (i : ℕ) (d e : BitSet) → i < length new → i < length old → ((n : ℕ) → has (slice_index_or new i d) n ≡ true → has (slice_index_or old i e) n ≡ true)
-    → ((g n : ℕ) → g < i → has_at new g n ≡ true → has_at old g n ≡ true) → (g n : ℕ) → g < i + 1 → has_at new g n ≡ true → has_at old g n ≡ true
-kept_at new old i d e there also here before g n small got = at (eqb_tells g i)
-  where
-    at : (((g == i) ≡ true) × (g ≡ i)) ⊎ (((g == i) ≡ false) × (g ≢ i)) → has_at old g n ≡ true
-    at (inl same) = subst (λ h. has_at old h n ≡ true) (sym same.1)
-        (holds_at-get_or (λ w. has w n) old i e also ∙ here n (sym (holds_at-get_or (λ w. has w n) new i d there) ∙ subst (λ h. has_at new h n ≡ true) same.1 got))
-    at (inr other) = before g n (let apart = other.1 in omega arith) got

@@ -1,5 +1,6 @@
 -- Branches that tell how a command ends, by their regions.
 use Rattle.pr_regions.proofs.Common.{◌≡◌, ℕ, zero, suc, ◌<◌, ◌≤◌, Bool, true, false, ◌≢◌, ◌⊎◌, List, [], ◌∷◌, length, if◌then◌else◌, ◌==◌, Some, None, Option, option_map, sym, refl, ap, ◌∙◌, subst, inl, inr, arith, eqb_tells, has, BitSet, Command, Held, One, UnitState, HasSomebody, Scope, IsScope, Registration, IsSo, Meets, IsInRegion, IsCovered, Purpose, Standing, Branch, AlwaysEnds, any, Leaves, EndsIn, Tell, MOST_KEYS, Contains, one_registration, Region, filter_of, IsUntestedOrRegistered}
+use Rattle.std.proofs.Common.{below_more}
 use Rattle.std.specs.List.{All as Each}
 use Rattle.pr_regions.specs.inside.Parts.{IsTest}
 use Rattle.pr_regions.proofs.lemmas.Portions.GatheredStates.{few_keys}
@@ -81,7 +82,7 @@ HasNobody s u sender passes = (g r : ℕ) → g ≢ sender → IsSo s u (Registr
 
 -- the same of the hosts below n
 abbrev HasNobodyBelow : Scope → UnitState → ℕ → (ℕ → Bool) → ℕ → Type 0
-HasNobodyBelow s u sender passes n = (g r : ℕ) → g < n → g ≢ sender → IsSo s u (Registration g r) → passes r ≡ false
+HasNobodyBelow s u sender passes n = (g : ℕ) → g < n → (r : ℕ) → g ≢ sender → IsSo s u (Registration g r) → passes r ≡ false
 
 abbrev Numbered : Scope → UnitState → Type 0
 Numbered s u = (g : ℕ) → g < s.hosts → (r : ℕ) × IsSo s u (Registration g r)
@@ -89,37 +90,25 @@ Numbered s u = (g : ℕ) → g < s.hosts → (r : ℕ) × IsSo s u (Registration
 abbrev Once : Scope → UnitState → Type 0
 Once s u = (g r q : ℕ) → IsSo s u (Registration g r) → IsSo s u (Registration g q) → r ≡ q
 
--- one host more, who is not the sender and does not pass
-one_more : (s : Scope) (u : UnitState) (sender : ℕ) (passes : ℕ → Bool) (n r : ℕ) → Once s u → IsSo s u (Registration n r) → passes r ≡ false
-    → HasNobodyBelow s u sender passes n → HasNobodyBelow s u sender passes (suc n)
-one_more s u sender passes n r once is fails none g q small other so = at (eqb_tells g n)
-  where
-    at : (((g == n) ≡ true) × (g ≡ n)) ⊎ (((g == n) ≡ false) × (g ≢ n)) → passes q ≡ false
-    at (inl same) = ap passes (sym (once n r q is (subst (λ h. IsSo s u (Registration h q)) same.1 so))) ∙ fails
-    at (inr differs) = let apart = differs.1 in none g q (omega arith) other so
-
--- one host more, who is the sender
-sender_more : (s : Scope) (u : UnitState) (sender : ℕ) (passes : ℕ → Bool) (n : ℕ) → n ≡ sender → HasNobodyBelow s u sender passes n → HasNobodyBelow s u sender passes (suc n)
-sender_more s u sender passes n is none g q small other so = at (eqb_tells g n)
-  where
-    at : (((g == n) ≡ true) × (g ≡ n)) ⊎ (((g == n) ≡ false) × (g ≢ n)) → passes q ≡ false
-    at (inl same) = absurd (other (same.1 ∙ is))
-    at (inr differs) = let apart = differs.1 in none g q (omega arith) other so
-
 somebody_below : (s : Scope) (u : UnitState) (sender : ℕ) (passes : ℕ → Bool) → Numbered s u → Once s u → (n : ℕ) → n ≤ s.hosts
     → HasSomebody s u sender (Some passes) ⊎ HasNobodyBelow s u sender passes n
-somebody_below s u sender passes numbered once zero small = inr (λ g r none other so. absurd (omega arith))
+somebody_below s u sender passes numbered once zero small = inr (λ g none r other so. absurd (omega arith))
 somebody_below s u sender passes numbered once (suc n) small = more (somebody_below s u sender passes numbered once n (omega arith)) (eqb_tells n sender)
   where
+    -- one host more
+    also : HasNobodyBelow s u sender passes n → ((r : ℕ) → n ≢ sender → IsSo s u (Registration n r) → passes r ≡ false) → HasSomebody s u sender (Some passes) ⊎ HasNobodyBelow s u sender passes (suc n)
+    also none here =
+        inr (λ g below. below_more (λ h. (r : ℕ) → h ≢ sender → IsSo s u (Registration h r) → passes r ≡ false) n none here g (omega arith))
+
     by_test : (r : ℕ) → IsSo s u (Registration n r) → n ≢ sender → HasNobodyBelow s u sender passes n → (b : Bool) → passes r ≡ b
         → HasSomebody s u sender (Some passes) ⊎ HasNobodyBelow s u sender passes (suc n)
     by_test r so other none true is = inl (n, r, other, so, is)
-    by_test r so other none false is = inr (one_more s u sender passes n r once so is none)
+    by_test r so other none false is = also none (λ q apart at_n. ap passes (sym (once n r q so at_n)) ∙ is)
 
     more : HasSomebody s u sender (Some passes) ⊎ HasNobodyBelow s u sender passes n → (((n == sender) ≡ true) × (n ≡ sender)) ⊎ (((n == sender) ≡ false) × (n ≢ sender))
         → HasSomebody s u sender (Some passes) ⊎ HasNobodyBelow s u sender passes (suc n)
     more (inl there) test = inl there
-    more (inr none) (inl same) = inr (sender_more s u sender passes n same.1 none)
+    more (inr none) (inl same) = also none (λ r other so. absurd (other same.1))
     more (inr none) (inr other) =
         let it = numbered n (omega arith) in
         by_test it.0 it.1 other.1 none (passes it.0) refl
@@ -131,7 +120,7 @@ somebody_or_none s u sender passes scope numbered =
   where
     all_hosts : HasSomebody s u sender (Some passes) ⊎ HasNobodyBelow s u sender passes s.hosts → HasSomebody s u sender (Some passes) ⊎ HasNobody s u sender passes
     all_hosts (inl there) = inl there
-    all_hosts (inr none) = inr (λ g r other so. none g r so.0 other so)
+    all_hosts (inr none) = inr (λ g r other so. none g so.0 r other so)
 
 pub somebody_or_nobody : (s : Scope) (p : Purpose) (held : Option Held) (sender : ℕ) (standing : Standing) (u : UnitState) (c : Command) (passes : ℕ → Bool)
     → Meets s p held sender standing u c → HasSomebody s u sender (Some passes) ⊎ HasNobody s u sender passes

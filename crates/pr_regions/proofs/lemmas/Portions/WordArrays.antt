@@ -1,18 +1,7 @@
 -- Words in an array.
-use Rattle.pr_regions.proofs.Common.{◌≡◌, ◌≢◌, ℕ, ◌+◌, ◌<◌, ◌≤◌, Bool, true, false, ◌==◌, ◌&&◌, not, if◌then◌else◌, List, length, Option, Some, None, refl, sym, ap, ◌∙◌, subst, inl, inr, ◌⊎◌, arith, eqb_tells, Held, One, All, BitSet, has, holds_alone, has_at, holds_at_kept, Region, filter_of, Place}
-use Rattle.std.proofs.Common.{slice_set}
+use Rattle.pr_regions.proofs.Common.{◌≡◌, ◌≢◌, ℕ, ◌<◌, ◌≤◌, Bool, true, false, ◌==◌, ◌&&◌, not, if◌then◌else◌, List, Option, Some, None, refl, sym, ap, ◌∙◌, subst, inl, inr, ◌⊎◌, eqb_tells, Held, One, All, BitSet, has, holds_alone, has_at, Region, filter_of, Place}
 use Rattle.std.proofs.Math.Bool.{and-true}
-use Rattle.pr_views.proofs.lemmas.Rooms.Places.{holds_at_written}
 use Rattle.pr_regions.specs.inside.Portions.{passes}
-
--- the words below i are as they should be, and then this one is
-pub one_more : (words : List BitSet) (i : ℕ) (w : BitSet) (is : ℕ → ℕ → Bool) → i < length words → ((g r : ℕ) → g < i → has_at words g r ≡ is g r)
-    → ((r : ℕ) → has w r ≡ is i r) → (g r : ℕ) → g < i + 1 → has_at (slice_set words i w) g r ≡ is g r
-one_more words i w is there before here g r below = at (eqb_tells g i)
-  where
-    at : (((g == i) ≡ true) × (g ≡ i)) ⊎ (((g == i) ≡ false) × (g ≢ i)) → has_at (slice_set words i w) g r ≡ is g r
-    at (inl same) = subst (λ h. has_at (slice_set words i w) h r ≡ is h r) (sym same.1) (holds_at_written (λ x. has x r) words i w there ∙ here r)
-    at (inr other) = holds_at_kept (λ x. has x r) words i g w other.1 ∙ before g r (let differs = other.1 in omega arith)
 
 -- ---- what a portion leaves to each
 

@@ -1,6 +1,8 @@
-use Rattle.pr_regions.proofs.Common.{◌<◌, ℕ, Bool, ◌&&◌, length, sym, ap, ◌∙◌, arith, has, has_at, holds_at-get_or, holds_at_kept}
+use Rattle.pr_regions.proofs.Common.{◌≡◌, ◌<◌, false, ◌&&◌, length, refl, sym, ap, ◌∙◌, arith, has, has_at, holds_at-get_or, holds_at_kept}
+use Rattle.std.specs.Option.{option_map_or}
 use Rattle.std.proofs.lemmas.List.{length-set}
-use Rattle.pr_regions.proofs.lemmas.Portions.WordArrays.{one_more, left_to_each}
+use Rattle.pr_views.proofs.lemmas.Rooms.Places.{more_set}
+use Rattle.pr_regions.proofs.lemmas.Portions.WordArrays.{left_to_each}
 use Rattle.pr_regions.proofs.place.Place.left.Goals as goal
 
 pub loop-host-preserved : goal.loop-host-preserved
@@ -8,12 +10,11 @@ loop-host-preserved c =
     let words = c.args.view.now.registrations in
     let others = c.args.region.now.others in
     let n = c.loop-host.host in
-    let is : ℕ → ℕ → Bool = λ g r. has_at words g r && has others r in
     let there : n < length c.loop-host.words = (let e = c.loop-host.invariant.size in omega arith) in
     let within : n < length words = omega arith in
     record {
-      done = one_more c.loop-host.words n c.and.result is there c.loop-host.invariant.done
-          (λ r. c.and.ensures r ∙ ap (λ b. b && has others r) (sym (holds_at-get_or (λ x. has x r) words n (record { bits = 0 }) within)));
+      done = λ g r. more_set (λ k o. option_map_or (λ x. has x r) o false ≡ (has_at words k r && has others r)) c.loop-host.words n n c.and.result refl there (λ k. c.loop-host.invariant.done k r)
+          (c.and.ensures r ∙ ap (λ b. b && has others r) (sym (holds_at-get_or (λ x. has x r) words n (record { bits = 0 }) within))) g;
       past = λ g r above. holds_at_kept (λ x. has x r) c.loop-host.words n g c.and.result (λ same. absurd (omega arith)) ∙ c.loop-host.invariant.past g r (omega arith);
       size = length-set c.loop-host.words n c.and.result ∙ c.loop-host.invariant.size;
     }
