@@ -1,6 +1,8 @@
-use Rattle.std.proofs.Common.{◌≡◌, length, refl, ◌∙◌, arith}
+use Rattle.std.proofs.Common.{◌≡◌, length, refl, sym, ◌∙◌, arith}
+use Rattle.std.proofs.lemmas.List.FromFn.{map-range_with_len_more}
 use Rattle.pr_roles.specs.Scenarios.{scenario_of}
-use Rattle.pr_shared.proofs.lemmas.Outcomes.Comparisons.{all_ends, ends_more}
+use Rattle.pr_shared.proofs.lemmas.Outcomes.Comparisons.{all_ends}
+use Rattle.pr_shared.proofs.lemmas.Histories.Seats.{both_more}
 use Rattle.pr_shared.proofs.lemmas.Guests.Nexuses.{few_nexuses, number_of_nexuses}
 use Rattle.pr_shared.proofs.closing.ends_of.Goals as goal
 
@@ -23,7 +25,7 @@ pub loop-host-preserved : goal.loop-host-preserved
 loop-host-preserved c = record {
   len = omega (arith, c.push_reserved.ensures.len, c.loop-host.invariant.len);
   room = c.push_reserved.ensures.capacity ∙ c.loop-host.invariant.room;
-  ends = ends_more _ _ _ _ _ _ c.push_reserved.ensures.items c.end.ensures c.loop-host.invariant.ends;
+  ends = both_more _ _ _ _ _ _ _ c.push_reserved.ensures.items (sym c.end.ensures) (map-range_with_len_more _ 0 c.loop-host.host c.loop-host.host (omega arith)) c.loop-host.invariant.ends;
 }
 
 pub returns : goal.returns

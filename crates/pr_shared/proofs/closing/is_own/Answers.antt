@@ -1,9 +1,10 @@
-use Rattle.std.proofs.Common.{◌≡◌, ◌+◌, Some, None, take, sym, ap, subst, ◌∙◌, arith}
-use Rattle.std.specs.List.{filter_map}
+use Rattle.std.proofs.Common.{◌≡◌, Some, None, take, sym, ap, ◌∙◌, arith}
 use Rattle.std.specs.Prelude.{option_map}
+use Rattle.std.specs.List.{filter_map}
 use Rattle.std.proofs.lemmas.Bool.{false≢true}
+use Rattle.std.proofs.lemmas.List.{append-nil, take_more}
 use Rattle.pr_roles.specs.Items.{entry_by}
-use Rattle.pr_shared.proofs.lemmas.Senders.EntryLists.{another_next, fails_more, passes_more, too_few}
+use Rattle.pr_shared.proofs.lemmas.Senders.EntryLists.{another_next, found_more, too_few}
 use Rattle.pr_shared.proofs.closing.is_own.Goals as goal
 use Rattle.pr_shared.proofs.closing.is_own.Goals.{in-Some+else-count-mine+else-not-is_same, in_default}
 
@@ -30,18 +31,17 @@ pub loop-item-preserved : goal.loop-item-preserved
 loop-item-preserved c = elim c.match-entry_by.branch [
   | in-Some+else-count-mine+else-not-is_same w ↦
       let here : entry_by c.args.host c.item-item.result ≡ Some w.in-Some.entry.now = sym c.entry_by.ensures ∙ ap (option_map (λ e. e.now)) w.in-Some.is in
-      let more =
-      passes_more (entry_by c.args.host) c.args.history.now c.args.mine.now c.loop-item.item-index c.loop-item.count c.item-item.result w.in-Some.entry.now w.index-mine-count.result
-      c.loop-item-test.true c.item-item.is here w.if-count-mine.false w.index-mine-count.is (w.is_same.ensures.0 w.if-not-is_same.false) c.loop-item.invariant.own in
+      let found = found_more (entry_by c.args.host) c.args.history.now c.loop-item.item-index c.item-item.result (Some w.in-Some.entry.now) c.loop-item-test.true c.item-item.is here in
+      let more = take_more c.args.mine.now c.loop-item.count w.index-mine-count.result w.if-count-mine.false in
       record {
         within = omega (arith, w.count-is, w.if-count-mine.false);
-        own = subst (λ n. filter_map (entry_by c.args.host) (take (c.loop-item.item-index + 1) c.args.history.now) ≡ take n c.args.mine.now) (sym w.count-is) more;
+        own = cc (w.is_same.ensures.0 w.if-not-is_same.false);
       }
   | in_default w ↦
       let here : entry_by c.args.host c.item-item.result ≡ None = sym c.entry_by.ensures ∙ ap (option_map (λ e. e.now)) w.in_default.is in
-      let more = fails_more (entry_by c.args.host) c.args.history.now c.args.mine.now c.loop-item.item-index c.loop-item.count c.item-item.result c.loop-item-test.true c.item-item.is here c.loop-item.invariant.own in
+      let found = found_more (entry_by c.args.host) c.args.history.now c.loop-item.item-index c.item-item.result None c.loop-item-test.true c.item-item.is here in
       record {
         within = omega (arith, w.count-is, c.loop-item.invariant.within);
-        own = subst (λ n. filter_map (entry_by c.args.host) (take (c.loop-item.item-index + 1) c.args.history.now) ≡ take n c.args.mine.now) (sym w.count-is) more;
+        own = cc (append-nil (filter_map (entry_by c.args.host) (take c.loop-item.item-index c.args.history.now)));
       }
 ]

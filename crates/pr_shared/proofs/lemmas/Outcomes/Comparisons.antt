@@ -1,12 +1,12 @@
 -- What a comparison of a world with the seats' lists says.
-use Rattle.std.proofs.Common.{◌≡◌, ℕ, ◌+◌, ◌<◌, ◌≤◌, ◌==◌, ◌&&◌, Bool, true, false, IsTrue, List, [], ◌∷◌, ◌++◌, length, take, get_or, Option, Some, None, refl, sym, ap, ◌∙◌, subst, arith}
+use Rattle.std.proofs.Common.{◌≡◌, ℕ, ◌<◌, ◌≤◌, ◌==◌, ◌&&◌, Bool, true, false, IsTrue, List, [], ◌∷◌, length, get_or, Option, Some, None, refl, sym, ap, ◌∙◌, subst, arith}
 use Rattle.std.specs.Prelude.{◌↔◌, if◌then◌else◌, map, nat_lt}
 use Rattle.std.specs.List.{cons_option, list_all, range_with_len}
 use Rattle.std.proofs.lemmas.Bool.{and_parts}
 use Rattle.std.proofs.lemmas.Bool.Decides.{nat_tests}
-use Rattle.std.proofs.lemmas.List.{get_or-map, length-map, map-append, map_more, take_all}
+use Rattle.std.proofs.lemmas.List.{get_or-map, length-map}
 use Rattle.std.proofs.lemmas.List.Folds.{list_all-map}
-use Rattle.std.proofs.lemmas.List.FromFn.{get_or-map-range_with_len, length-range_with_len, map-range_with_len_more}
+use Rattle.std.proofs.lemmas.List.FromFn.{get_or-map-range_with_len, length-range_with_len}
 use Rattle.pr_roles.specs.declared.entry.Entry.{Entry}
 use Rattle.pr_roles.specs.declared.item.Item.{Item}
 use Rattle.pr_roles.specs.declared.item.Item.TheVariants.{Sent, Reset}
@@ -27,23 +27,11 @@ use Rattle.pr_shared.specs.Outcomes.{IsClosed, IsHalted, IsHaltedWith, endings_i
 
 -- ---- list by list
 
--- a list more of those that are compared
-pub own_more : {X : Type 0} (f : ℕ → List Entry) (g : X → List Entry) (xs : List X) (i : ℕ) (x : X) → i < length xs → x ≡ get_or xs i x → f i ≡ g x
-    → map f (range_with_len 0 i) ≡ map g (take i xs) → map f (range_with_len 0 (i + 1)) ≡ map g (take (i + 1) xs)
-own_more f g xs i x there at same before =
-    map-range_with_len_more f 0 i i (omega arith) ∙ (ap (λ ls. ls ++ f i ∷ []) before ∙ (ap (λ l. map g (take i xs) ++ l ∷ []) (same ∙ ap g at) ∙ sym (map_more g xs i x there)))
-
 -- where all are the same, so are those at one place
 pub own_at : {X : Type 0} (f : ℕ → List Entry) (g : X → List Entry) (xs : List X) (i : ℕ) (x : X) → i < length xs → x ≡ get_or xs i x
     → map f (range_with_len 0 (length xs)) ≡ map g xs → f i ≡ g x
 own_at f g xs i x there at all =
     sym (get_or-map-range_with_len f 0 (length xs) i i [] there (omega arith)) ∙ (ap (λ ls. get_or ls i []) all ∙ (get_or-map g xs i x [] there ∙ ap g (sym at)))
-
-pub all_own : {X : Type 0} (f : ℕ → List Entry) (g : X → List Entry) (xs : List X) (i : ℕ) → i ≤ length xs → length xs ≤ i → map f (range_with_len 0 i) ≡ map g (take i xs)
-    → map f (range_with_len 0 (length xs)) ≡ map g xs
-all_own f g xs i within past before =
-    let all : length xs ≡ i = omega arith in
-    ap (λ n. map f (range_with_len 0 n)) all ∙ (before ∙ ap (map g) (take_all i xs past))
 
 -- ---- the whole
 
@@ -107,10 +95,6 @@ just_halted s w xs g history count a r one tells is all before = (
     long = length-map xs g ∙ sym all
 
 -- ---- how each stands
-
-pub ends_more : {X Y : Type 0} (xs ys : List X) (x : X) (f : X → Y) (g : ℕ → Y) (n : ℕ) → ys ≡ xs ++ x ∷ [] → g n ≡ f x → map f xs ≡ map g (range_with_len 0 n) → map f ys ≡ map g (range_with_len 0 (n + 1))
-ends_more xs ys x f g n pushed same before =
-    ap (map f) pushed ∙ (map-append f xs (x ∷ []) ∙ (ap (λ zs. zs ++ f x ∷ []) before ∙ (ap (λ z. map g (range_with_len 0 n) ++ z ∷ []) (sym same) ∙ sym (map-range_with_len_more g 0 n n (omega arith)))))
 
 pub all_ends : (s : Scenario) (y : Schedule) (n : ℕ) (es : List (Option Ending)) → n ≡ length s.nexuses → es ≡ map (λ h. ending (control y.world h) (plan y h)) (range_with_len 0 n) → es ≡ endings_in s y
 all_ends s y n es all before = before ∙ ap (λ k. map (λ h. ending (control y.world h) (plan y h)) (range_with_len 0 k)) all

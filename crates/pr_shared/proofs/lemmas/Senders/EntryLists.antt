@@ -1,29 +1,17 @@
 -- A list compared, entry by entry, with what a function finds in the items of a history.
-use Rattle.std.proofs.Common.{◌≡◌, ℕ, suc, ◌+◌, ◌-◌, ◌<◌, ◌≤◌, List, [], ◌∷◌, ◌++◌, length, take, drop, get_or, Option, Some, None, sym, ap, ◌∙◌, arith, length-append}
+use Rattle.std.proofs.Common.{◌≡◌, ℕ, suc, ◌+◌, ◌<◌, ◌≤◌, List, [], ◌∷◌, ◌++◌, length, take, drop, get_or, Option, Some, sym, ap, ◌∙◌, arith, length-append}
 use Rattle.std.specs.List.{filter_map, cons_option}
 use Rattle.std.proofs.Math.Seq.{drop-cons}
-use Rattle.std.proofs.lemmas.List.{append-nil, get_or-append_right, length-take-le, take-append-drop, take_all, take_more}
+use Rattle.std.proofs.lemmas.List.{get_or_at, length-take-le, take-append-drop, take_all, take_more}
 use Rattle.std.proofs.lemmas.List.Elements.{filter_map-append}
 
 -- ---- one item more of the history
 
-found_more : {X Y : Type 0} (f : X → Option Y) (xs : List X) (i : ℕ) (x : X) (o : Option Y) → i < length xs → x ≡ get_or xs i x → f x ≡ o
+pub found_more : {X Y : Type 0} (f : X → Option Y) (xs : List X) (i : ℕ) (x : X) (o : Option Y) → i < length xs → x ≡ get_or xs i x → f x ≡ o
     → filter_map f (take (i + 1) xs) ≡ filter_map f (take i xs) ++ cons_option o []
 found_more f xs i x o there at is =
     ap (filter_map f) (take_more xs i x there ∙ ap (λ y. take i xs ++ y ∷ []) (sym at))
     ∙ (filter_map-append f (take i xs) (x ∷ []) ∙ ap (λ p. filter_map f (take i xs) ++ cons_option p []) is)
-
--- what is found there is the next of the list
-pub passes_more : {X Y : Type 0} (f : X → Option Y) (xs : List X) (mine : List Y) (i n : ℕ) (x : X) (e y : Y) → i < length xs → x ≡ get_or xs i x → f x ≡ Some e → n < length mine → y ≡ get_or mine n y → e ≡ y
-    → filter_map f (take i xs) ≡ take n mine → filter_map f (take (i + 1) xs) ≡ take (n + 1) mine
-passes_more f xs mine i n x e y there at is within next same before =
-    found_more f xs i x (Some e) there at is
-    ∙ (ap (λ ys. ys ++ e ∷ []) before ∙ (ap (λ z. take n mine ++ z ∷ []) (same ∙ next) ∙ sym (take_more mine n y within)))
-
--- nothing is found there
-pub fails_more : {X Y : Type 0} (f : X → Option Y) (xs : List X) (mine : List Y) (i n : ℕ) (x : X) → i < length xs → x ≡ get_or xs i x → f x ≡ None
-    → filter_map f (take i xs) ≡ take n mine → filter_map f (take (i + 1) xs) ≡ take n mine
-fails_more f xs mine i n x there at is before = found_more f xs i x None there at is ∙ (append-nil (filter_map f (take i xs)) ∙ before)
 
 -- ---- where the list is another
 
@@ -50,9 +38,4 @@ pub another_next : {X Y : Type 0} (f : X → Option Y) (xs : List X) (mine : Lis
 another_next f xs mine i n x e y there at is within next before all =
     let rest = filter_map f (drop (suc i) xs) in
     let split : mine ≡ take n mine ++ e ∷ rest = sym all ∙ (found_split f xs i x e there at is ∙ ap (λ ys. ys ++ e ∷ rest) before) in
-    let long : length (take n mine) ≡ n = length-take-le n mine (omega arith) in
-    let here : get_or (take n mine ++ e ∷ rest) n y ≡ get_or (e ∷ rest) (n - n) y = get_or-append_right (take n mine) (e ∷ rest) n n y long (omega arith) in
-    let none : n - n ≡ 0 = omega arith in
-    sym (next ∙ (ap (λ ys. get_or ys n y) split ∙ (here ∙ ap (λ k. get_or (e ∷ rest) k y) none)))
-
--- ---- at the end of the history
+    sym (next ∙ (ap (λ ys. get_or ys n y) split ∙ get_or_at (take n mine) e rest y n (length-take-le n mine (omega arith))))
