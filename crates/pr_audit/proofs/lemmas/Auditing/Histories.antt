@@ -3,13 +3,8 @@ use Rattle.pr_audit.proofs.Common.{◌≡◌, ℕ, List, [], ◌∷◌, ◌++◌
 use Rattle.std.proofs.Common.{drop}
 use Rattle.std.proofs.lemmas.List.{append_assoc, take-append-drop}
 pub use Rattle.std.proofs.lemmas.List.{same_from_push as last_same}
+pub use Rattle.pr_roles.proofs.lemmas.SafeRuns.NextEvents.{runs_go_on as run_then}
 use Rattle.pr_roles.specs.Worlds.{Run}
-
--- ---- one event more
-
-pub run_then : (s : Scenario) (w v x : World) (es : List Event) (e : Event) → Run s w es v → Happens s v e x → Run s w (es ++ e ∷ []) x
-run_then s w v x [] e run happens = (x, subst (λ u. Happens s u e x) run happens, refl)
-run_then s w v x (f ∷ fs) e run happens = (run.0, run.1, run_then s run.0 v x fs e run.2 happens)
 
 -- ---- the last of a list
 

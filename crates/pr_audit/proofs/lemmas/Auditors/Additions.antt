@@ -84,7 +84,7 @@ told_how how.Plain u h q r v step = let never = steps_are_never_busy u h q r v s
 told_how _ u h q r v refused = ap (λ (x : Reply). how_of x.status) (sym refused.0)
 
 -- the entry may come, and leads to this world; who sends what it likes is a guest
-record Comes (s : Scenario) (w : World) (e : Entry) (x : World) : Type 0 where
+pub record Comes (s : Scenario) (w : World) (e : Entry) (x : World) : Type 0 where
   pub room : IsTrue (may_come s w.history e.host (how_of e.reply.status))
   pub after : Control
   pub unit : UnitState
@@ -203,7 +203,7 @@ free_guests s w h acts there free = by s.nexuses there (tasks_at s w h acts)
 
 -- ---- an entry that was judged
 
-comes : (s : Scenario) (w : World) (e : Entry) (x : World) → ActFor s w → Adds s w (Sent e) x → Comes s w e x
+pub comes : (s : Scenario) (w : World) (e : Entry) (x : World) → ActFor s w → Adds s w (Sent e) x → Comes s w e x
 comes s w e x acts adds = comes_by s w e x adds.event (guests_free s w acts) adds.happens adds.added
 
 pub judged_tried : (s : Scenario) (w : World) (e : Entry) (k after : Control) (b : Bool) (v : UnitState) → ActFor s w → e.host < length s.nexuses → control w e.host ≡ k
@@ -217,10 +217,6 @@ judged_tried s w e k after true v acts there is room may = (
 judged_tried s w e k after false v acts there is room not =
     λ x adds. let c = comes s w e x acts adds in
     not.2 c.after c.unit (subst (λ k. MayCome (how_of e.reply.status) k (role s e.host) w.unit e c.after c.unit) is c.may)
-
--- none is refused more often than is declared
-pub none_left : (s : Scenario) (w : World) (e : Entry) (x : World) → ActFor s w → may_come s w.history e.host (how_of e.reply.status) ≡ false → Adds s w (Sent e) x → ⊥
-none_left s w e x acts over adds = false≢true (sym over ∙ (comes s w e x acts adds).room)
 
 -- nobody sends under a number past the last
 pub none_past : (s : Scenario) (w : World) (e : Entry) (x : World) → ActFor s w → length s.nexuses ≤ e.host → Adds s w (Sent e) x → ⊥

@@ -1,5 +1,5 @@
 -- An entry that one among the senders was asked for.
-use Rattle.pr_audit.proofs.Common.{◌≡◌, ℕ, ◌<◌, ◌≤◌, Bool, true, false, List, [], ◌∷◌, ◌++◌, map, length, get_or, IsTrue, slice_set, Some, vec_len, sym, refl, ap, ◌∙◌, subst, arith, option_map_or, get_or-map, length-map, map-set, slice_get-get_or, map-set_same, slice_get, UnitState, how_of, may_come, Task, Scripted, Planned, Nexus, role, Scenario, scenario_of, Free, World, control, control_of, Entry, How, Item, Sent, Parts, control_by, Adds, IsTried, is_free, ActFor, is_planned, IsJudged}
+use Rattle.pr_audit.proofs.Common.{◌≡◌, ℕ, ◌<◌, ◌≤◌, Bool, true, false, List, [], ◌∷◌, ◌++◌, map, length, get_or, IsTrue, slice_set, Some, vec_len, sym, refl, ap, ◌∙◌, subst, arith, false≢true, option_map_or, get_or-map, length-map, map-set, slice_get-get_or, map-set_same, slice_get, UnitState, how_of, may_come, Task, Scripted, Planned, Nexus, role, Scenario, scenario_of, Free, World, control, control_of, Entry, How, Item, Sent, Parts, control_by, Adds, IsTried, is_free, ActFor, is_planned, IsJudged}
 use Rattle.std.proofs.Common.{Vec, Global}
 use Rattle.std.proofs.lemmas.List.{length-set, get_or-set_same}
 use Rattle.pr_roles.specs.declared.parts.Nexus.{Nexus as NexusPart}
@@ -7,7 +7,7 @@ use Rattle.pr_audit.specs.declared.sender.Sender.{Sender}
 use Rattle.pr_audit.specs.Auditors.{IsPast}
 use Rattle.pr_audit.specs.inside.Auditing.{AreFirstSenders}
 use Rattle.pr_audit.proofs.lemmas.Auditing.Parts.{count_of_parts, role_at}
-use Rattle.pr_audit.proofs.lemmas.Auditors.Additions.{judged_tried, judged_acts, none_left, none_past}
+use Rattle.pr_audit.proofs.lemmas.Auditors.Additions.{judged_tried, judged_acts, comes, none_past}
 
 -- ---- the senders
 
@@ -65,7 +65,7 @@ nobody_tried p q u senders e i n acts same at len past before x adds =
 pub none_tried : (so : How) (s : Scenario) (u : UnitState) (senders : List Sender) (e : Entry) (before : List Item) → ActFor s (world_of u senders []) → so ≡ how_of e.reply.status
     → may_come s before e.host so ≡ false → (x : World) → Adds s (world_of u senders before) (Sent e) x → ⊥
 none_tried so s u senders e before acts told over x adds =
-    none_left s (world_of u senders before) e x (others_acts s u senders [] before acts) (subst (λ k. may_come s before e.host k ≡ false) told over) adds
+    false≢true (sym (subst (λ k. may_come s before e.host k ≡ false) told over) ∙ (comes s (world_of u senders before) e x (others_acts s u senders [] before acts) adds).room)
 
 -- ---- the sender at a place
 

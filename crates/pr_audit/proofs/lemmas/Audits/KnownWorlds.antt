@@ -24,7 +24,8 @@ known_first s a first world acts = record {
   acts = acts;
 }
 
-known_then : (s : Scenario) (history : List Item) (a b : Auditor) (e : Item) → IsKnown s history a → IsTried s (world_at a history) e true (world_at b (history ++ e ∷ []))
+-- past one item more
+pub known_then : (s : Scenario) (history : List Item) (a b : Auditor) (e : Item) → IsKnown s history a → IsTried s (world_at a history) e true (world_at b (history ++ e ∷ []))
     → ActFor s (world_at b []) → IsKnown s (history ++ e ∷ []) b
 known_then s history a b e known tried acts =
     record {
@@ -35,13 +36,6 @@ known_then s history a b e known tried acts =
           tried.1 w (subst (λ v. Adds s v e w) (known.only last.before last.reaches) last.adds);
       acts = acts;
     }
-
--- past one item more
-pub known_more : (s : Scenario) (history : List Item) (i : ℕ) (a b : Auditor) (e : Item) → i < length history → e ≡ get_or history i e → IsKnown s (take i history) a
-    → IsTried s (world_at a (take i history)) e true (world_at b (take i history ++ e ∷ [])) → ActFor s (world_at b []) → IsKnown s (take (i + 1) history) b
-known_more s history i a b e there is known tried acts =
-    let more : take (i + 1) history ≡ take i history ++ e ∷ [] = take_more history i e there ∙ ap (λ x. take i history ++ x ∷ []) (sym is) in
-    subst (λ es. IsKnown s es b) (sym more) (known_then s (take i history) a b e known tried acts)
 
 -- ---- what the audit answers
 
