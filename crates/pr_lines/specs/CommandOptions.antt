@@ -3,7 +3,6 @@
 use Rattle.std.specs.Prelude.{ℕ, ◌&&◌, if◌then◌else◌, List, [], ◌∷◌, map, bytes_eq, codes, Option, Some, None, is_none, unwrap_or, option_map}
 use Rattle.std.specs.List.{find}
 use Rattle.std.specs.Option.{option_or}
-use Rattle.pr_cdb.specs.declared.command.Kind.{Kind}
 use Rattle.pr_cdb.specs.declared.command.Command.{Command}
 use Rattle.pr_cdb.specs.declared.action.Direction.{Direction}
 use Rattle.pr_cdb.specs.declared.action.Direction.TheVariants.{In, Out}

@@ -1,8 +1,7 @@
 -- A number that is read digit by digit stays below the base's power.
 use Rattle.pr_lines.proofs.Common.{◌≡◌, ℕ, ◌+◌, ◌*◌, ◌^◌, ◌<◌, ◌≤◌, List, [], ◌∷◌, length, take, drop, Some, None, fold, Option, sym, ap, ◌∙◌, arith, lit<, nat_tests, digit_value}
-use Rattle.std.proofs.Common.{get_or, take-append-drop, IfSome, add-one}
-use Rattle.std.proofs.lemmas.List.Sums.{fold-append}
-use Rattle.std.proofs.Math.Seq.{take-suc}
+use Rattle.std.proofs.Common.{get_or, take-append-drop, IfSome}
+use Rattle.std.proofs.lemmas.List.Sums.{fold-append, fold_more}
 use Rattle.pr_lines.specs.WordTerms.{number, amount_of}
 use Rattle.std.proofs.Math.Nat.{pow-le-pow_right, mul-le-mul_left, mul_comm}
 use Rattle.std.proofs.lemmas.Grind.{pow_more}
@@ -51,7 +50,7 @@ past_fold most word h = grind (arith, nat_tests)
 pub none_past : (most i v : ℕ) (word : List ℕ) → v ≡ fold (λ m b. 10 * m + digit_value b) 0 (take i word) → i < length word → most < 10 * v + digit_value (get_or word i 0) → None ≡ amount_of most word
 none_past most i v word e h past =
     let more : fold (λ m b. 10 * m + digit_value b) 0 (take (i + 1) word) ≡ 10 * v + digit_value (get_or word i 0) =
-    rw (add-one, take-suc word i 0 h, fold-append (λ m b. 10 * m + digit_value b) 0 (take i word) (get_or word i 0 ∷ [])) (ap (λ n. 10 * n + digit_value (get_or word i 0)) (sym e)) in
+    fold_more (λ m b. 10 * m + digit_value b) 0 word i 0 h ∙ ap (λ n. 10 * n + digit_value (get_or word i 0)) (sym e) in
     let whole : most < fold (λ m b. 10 * m + digit_value b) 0 word = amount_past most (i + 1) word (omega (arith, more)) in
     past_fold most word whole
 
