@@ -1,7 +1,7 @@
 -- The lines of one nexus have no fault.
 use Rattle.pr_text.proofs.Common.{◌≡◌, ℕ, suc, ◌+◌, ◌≤◌, Bool, true, false, cond, not, ◌&&◌, ◌||◌, List, [], ◌∷◌, ◌++◌, map, length, is_some, nat_lt, nat_le, ◌==◌, Some, None, Ok, Err, fold, filter, Option, Result, bytes_eq, sym, refl, ap, ◌∙◌, append_assoc, append-nil, arith, length-append, list_all, list_any, unwrap_or, and_parts, nat_tests, Command, Attention, Held, is_written, is_name, MOST_BUDGET, is_version, is_count, are_distinct, is_action, is_role, is_start, is_nexus, Nexus, Task, Scripted, Planned, MOST_CLAUSES, MOST_PLANNED, MOST_REFUSALS, Clause, ScenarioLine, declares, start_line, pending_line, refusals_line, role_line, script_line, plan_line, end_line, command_line, since, RefusalKind, and_from, leb-true, Declared, WrittenTask, scripted, planned, Declaration, OpenLines, Context, outside, in_script, in_plan, codes_of, count_in, and_then, with_count, with_task, begun_script, item_placed, task_written, body_lines, all_said, ReadError, number_of, item_standing, not-true, or_parts}
 use Rattle.std.specs.FinSet as set
-use Rattle.std.proofs.lemmas.Bool.{or_from, not_from_false}
+use Rattle.std.proofs.lemmas.Bool.{cond_both, or_from, not_from_false}
 use Rattle.std.proofs.Math.Bool.{and-false}
 use Rattle.std.proofs.Math.Seq.{set-append_seam}
 use Rattle.pr_attention.specs.Attentions.{Codes, no_code, code_of, is_attention, AreAttentions, each_attention}
@@ -46,12 +46,6 @@ contains-codes (x ∷ xs) codes q =
     swapped false true c = refl
     swapped false false c = refl
 
-no_more : (a b : Bool) → (a && false) ≡ (b && false)
-no_more true true = refl
-no_more true false = refl
-no_more false true = refl
-no_more false false = refl
-
 -- with one attention more, of which we know whether it is kept and whether it is the one that is looked for
 one_kept : (codes : Codes) (q : ℕ) (x : Attention) (xs : List Attention) (b c : Bool) → set.contains codes (code_of x) ≡ b → (q == code_of x) ≡ c
     → list_any (λ y. q == code_of y) (filter (λ y. set.contains codes (code_of y)) xs) ≡ (list_any (λ y. q == code_of y) xs && set.contains codes q)
@@ -63,7 +57,7 @@ one_kept codes q x xs true false there same rest = rw (there, same) rest
 one_kept codes q x xs false true there same rest =
     let is : q ≡ code_of x = grind (arith, nat_tests) in
     let none : set.contains codes q ≡ false = ap (set.contains codes) is ∙ there in
-    rw (there, same) (rest ∙ rw none (no_more (list_any (λ y. q == code_of y) xs) true))
+    rw (there, same) (rest ∙ rw none (and-false (list_any (λ y. q == code_of y) xs)))
 one_kept codes q x xs false false there same rest = rw (there, same) rest
 
 any-kept : (codes : Codes) (q : ℕ) (xs : List Attention)
@@ -88,23 +82,20 @@ attentions_are codes are = same_codes (codes_of (attentions_in codes)) codes eac
         ∙ (nothing_else (list_any (λ x. q == code_of x) (attentions_in codes)) q
         ∙ (any-kept codes q each_attention ∙ known q (set.contains codes q) refl))
 
-any_in : {A : Type 0} (b : Bool) (q : A → Bool) (x : A) (xs : List A) → q x ≡ false → list_any q xs ≡ false → list_any q (cond b (x ∷ xs) xs) ≡ false
-any_in true q x xs first rest = or_from (q x) (list_any q xs) first rest
-any_in false q x xs first rest = rest
-
 any_fewer : {A : Type 0} (p q : A → Bool) (xs : List A) → list_any q xs ≡ false → list_any q (filter p xs) ≡ false
 any_fewer p q [] h = refl
-any_fewer p q (x ∷ xs) h = let parts = or_parts (q x) _ h in any_in (p x) q x (filter p xs) parts.0 (any_fewer p q xs parts.1)
-
-apart_in : {A : Type 0} (b : Bool) (same : A → A → Bool) (x : A) (xs : List A) → list_any (λ y. same y x) xs ≡ false → are_distinct same xs ≡ true → are_distinct same (cond b (x ∷ xs) xs) ≡ true
-apart_in true same x xs first rest = and_from (not (list_any (λ y. same y x) xs)) _ (not_from_false (list_any (λ y. same y x) xs) first) rest
-apart_in false same x xs first rest = rest
+any_fewer p q (x ∷ xs) h =
+    let parts = or_parts (q x) _ h in
+    let rest = any_fewer p q xs parts.1 in
+    cond_both (p x) (x ∷ filter p xs) (filter p xs) (λ ys. list_any q ys ≡ false) (λ _. or_from _ _ parts.0 rest) (λ _. rest)
 
 apart_still : {A : Type 0} (same : A → A → Bool) (p : A → Bool) (xs : List A) → are_distinct same xs ≡ true → are_distinct same (filter p xs) ≡ true
 apart_still same p [] h = refl
 apart_still same p (x ∷ xs) h =
     let parts = and_parts (not (list_any (λ y. same y x) xs)) _ h in
-    apart_in (p x) same x (filter p xs) (any_fewer p (λ y. same y x) xs (not-true _ parts.0)) (apart_still same p xs parts.1)
+    let first = not_from_false _ (any_fewer p (λ y. same y x) xs (not-true _ parts.0)) in
+    let rest = apart_still same p xs parts.1 in
+    cond_both (p x) (x ∷ filter p xs) (filter p xs) (λ ys. are_distinct same ys ≡ true) (λ _. and_from _ _ first rest) (λ _. rest)
 
 attentions_apart : (codes : Codes) → are_distinct (λ x y. code_of x == code_of y) (attentions_in codes) ≡ true
 attentions_apart codes = apart_still (λ x y. code_of x == code_of y) (λ x. set.contains codes (code_of x)) each_attention refl
@@ -223,28 +214,16 @@ module _ (n version : ℕ) (dated : is_version version ≡ true) (keys : Option 
       by false true = refl
       by false false = refl
 
-  named_still : (b : ℕ) (x : Declaration) → bytes_eq x.name name ≡ true → bytes_eq (counted_as refusal.Busy b x).name name ≡ true
-  named_still b x it = by (b == 0)
-    where
-      by : (c : Bool) → bytes_eq (cond c x (with_count refusal.Busy b x)).name name ≡ true
-      by true = it
-      by false = it
-
-  full_still : (b : ℕ) (x : Declaration) → is_some x.full ≡ false → is_some (counted_as refusal.Busy b x).full ≡ false
-  full_still b x none = by (b == 0)
-    where
-      by : (c : Bool) → is_some (cond c x (with_count refusal.Busy b x)).full ≡ false
-      by true = none
-      by false = none
-
   both_go : (guest : Bool) (s : Option (List (Option ℕ))) (p : Option Codes) (b f : ℕ) (ls : List Line) (r : Result Declared ReadError) → is_count version b ≡ true → is_count version f ≡ true
       → all_said ls (with (staged n name guest s p (count_said b) (count_said f) [] None) outside) ≡ r
       → all_said (refusals_said n name refusal.Busy b ++ (refusals_said n name refusal.Full f ++ ls)) (with (early n name guest s p) outside) ≡ r
   both_go guest s p b f ls r busies fulls rest =
       let x = early n name guest s p in
       let y = counted_as refusal.Busy b x in
+      let it = cond_both (b == 0) x (with_count refusal.Busy b x) (λ z. bytes_eq z.name name ≡ true) (λ _. itself name) (λ _. itself name) in
+      let none = cond_both (b == 0) x (with_count refusal.Busy b x) (λ z. is_some z.full ≡ false) (λ _. refl) (λ _. refl) in
       said_on (refusals_said n name refusal.Busy b) _ _ (with y outside) _ (refusals_go refusal.Busy b x (itself name) refl busies)
-      (said_on (refusals_said n name refusal.Full f) ls _ (with (counted_as refusal.Full f y) outside) _ (refusals_go refusal.Full f y (named_still b x (itself name)) (full_still b x refl) fulls)
+      (said_on (refusals_said n name refusal.Full f) ls _ (with (counted_as refusal.Full f y) outside) _ (refusals_go refusal.Full f y it none fulls)
       (ap (λ z. all_said ls (with z outside)) (counts_are guest s p b f) ∙ rest))
 
   -- ---- a role

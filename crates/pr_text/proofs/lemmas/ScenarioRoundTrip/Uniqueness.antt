@@ -1,5 +1,5 @@
 -- One list of lines is written as one script, and one text as one scenario.
-use Rattle.pr_text.proofs.Common.{◌≡◌, ℕ, Bool, true, false, List, [], ◌∷◌, ◌++◌, map, sym, refl, ap, ◌∙◌, subst, append_assoc, append-nil, false≢true, Command, Stmt, Stmts, Arms, sends, repeats, none, more, no_arm, arm, breaks, stops, Test, Scenario, Nexus, Task, Scripted, Planned, Declared, scripted, nexus_written, IsDeclaredBy, IsWrittenAs, task_written, ScriptLine, arm_on, block_done, statement_lines, body_lines, arms_lines, send_at, repeat_of, stop_with, is_statement}
+use Rattle.pr_text.proofs.Common.{◌≡◌, ℕ, Bool, true, false, List, [], ◌∷◌, ◌++◌, map, sym, refl, ap, ◌∙◌, subst, append_assoc, append-nil, false≢true, Stmt, Stmts, Arms, sends, repeats, none, more, no_arm, arm, breaks, stops, Scenario, Nexus, Task, Scripted, Planned, Declared, nexus_written, IsDeclaredBy, IsWrittenAs, task_written, ScriptLine, block_done, statement_lines, body_lines, arms_lines, is_statement}
 use Rattle.pr_text.proofs.lemmas.Sound.Scripts.{ok_same}
 
 -- the first of the lines begins a statement
@@ -26,34 +26,19 @@ tail_same k l u v e = cc
 assoc : (a b c d : List ScriptLine) (u v : List ScriptLine) → (a ++ b) ++ u ≡ (c ++ d) ++ v → a ++ (b ++ u) ≡ c ++ (d ++ v)
 assoc a b c d u v e = sym (append_assoc a b u) ∙ (e ∙ append_assoc c d v)
 
-same_sends : (n m : ℕ) (c d : Command) (a b : Arms) → send_at n c ≡ send_at m d → a ≡ b → sends n c a ≡ sends m d b
-same_sends n m c d a b e f = cc
-
-same_repeats : (n m : ℕ) (a b : Stmts) → repeat_of n ≡ repeat_of m → a ≡ b → repeats n a ≡ repeats m b
-same_repeats n m a b e f = cc
-
-same_arm : (t s : Test) (a b : Stmts) (x y : Arms) → arm_on t ≡ arm_on s → a ≡ b → x ≡ y → arm t a x ≡ arm s b y
-same_arm t s a b x y e f g = cc
-
-same_more : (x y : Stmt) (a b : Stmts) → x ≡ y → a ≡ b → more x a ≡ more y b
-same_more x y a b e f = cc
-
 pub head_same : {A : Type 0} (k l : A) (u v : List A) → k ∷ u ≡ l ∷ v → k ≡ l
 head_same k l u v e = cc
-
-same_stops : (w z : List ℕ) → stop_with w ≡ stop_with z → stops w ≡ stops z
-same_stops w z e = cc
 
 mutual
   statement_same : (x y : Stmt) (u v : List ScriptLine) → statement_lines x ++ u ≡ statement_lines y ++ v → Same x y u v
   statement_same (sends n c a) (sends m d b) u v e =
       let inner = arms_same a b u v (assoc (arms_lines a) (block_done ∷ []) (arms_lines b) (block_done ∷ []) u v (tail_same _ _ _ _ e)) in
-      record { first = same_sends n m c d a b (head_same _ _ _ _ e) inner.first; rest = inner.rest }
+      record { first = cc; rest = inner.rest }
   statement_same (repeats n a) (repeats m b) u v e =
       let inner = body_same a b (block_done ∷ u) (block_done ∷ v) refl refl (assoc (body_lines a) (block_done ∷ []) (body_lines b) (block_done ∷ []) u v (tail_same _ _ _ _ e)) in
-      record { first = same_repeats n m a b (head_same _ _ _ _ e) inner.first; rest = tail_same _ _ _ _ inner.rest }
-  statement_same breaks breaks u v e = record { first = refl; rest = tail_same _ _ _ _ e }
-  statement_same (stops w) (stops z) u v e = record { first = same_stops w z (head_same _ _ _ _ e); rest = tail_same _ _ _ _ e }
+      record { first = cc; rest = cc }
+  statement_same breaks breaks u v e = record { first = refl; rest = cc }
+  statement_same (stops w) (stops z) u v e = record { first = cc; rest = cc }
   statement_same _ _ u v e = cc
 
   body_same : (a b : Stmts) (u v : List ScriptLine) → leads u ≡ false → leads v ≡ false → body_lines a ++ u ≡ body_lines b ++ v → Same a b u v
@@ -65,15 +50,15 @@ mutual
   body_same (more x a) (more y b) u v p q e =
       let here = statement_same x y (body_lines a ++ u) (body_lines b ++ v) (assoc (statement_lines x) (body_lines a) (statement_lines y) (body_lines b) u v e) in
       let later = body_same a b u v p q here.rest in
-      record { first = same_more x y a b here.first later.first; rest = later.rest }
+      record { first = cc; rest = later.rest }
 
   arms_same : (a b : Arms) (u v : List ScriptLine) → arms_lines a ++ block_done ∷ u ≡ arms_lines b ++ block_done ∷ v → Same a b u v
-  arms_same no_arm no_arm u v e = record { first = refl; rest = tail_same _ _ _ _ e }
+  arms_same no_arm no_arm u v e = record { first = refl; rest = cc }
   arms_same (arm t c x) (arm s d y) u v e =
       let inner = body_same c d (arms_lines x ++ block_done ∷ u) (arms_lines y ++ block_done ∷ v) (arms_lead x u) (arms_lead y v)
       (assoc (body_lines c) (arms_lines x) (body_lines d) (arms_lines y) (block_done ∷ u) (block_done ∷ v) (tail_same _ _ _ _ e)) in
       let later = arms_same x y u v inner.rest in
-      record { first = same_arm t s c d x y (head_same _ _ _ _ e) inner.first later.first; rest = later.rest }
+      record { first = cc; rest = later.rest }
   arms_same _ _ u v e = cc
 
 script_same : (a b : Stmts) → body_lines a ≡ body_lines b → a ≡ b
@@ -81,17 +66,8 @@ script_same a b e = (body_same a b [] [] refl refl (append-nil (body_lines a) �
 
 -- ---- scenarios
 
-written_lines : (ls ks : List ScriptLine) (n m : ℕ) → scripted ls n ≡ scripted ks m → ls ≡ ks
-written_lines ls ks n m e = cc
-
-written_budget : (ls ks : List ScriptLine) (n m : ℕ) → scripted ls n ≡ scripted ks m → n ≡ m
-written_budget ls ks n m e = cc
-
-both_scripted : (a b : Stmts) (n m : ℕ) → a ≡ b → n ≡ m → Scripted a n ≡ Scripted b m
-both_scripted a b n m e f = cc
-
 task_same : (x y : Task) → task_written x ≡ task_written y → x ≡ y
-task_same (Scripted a n) (Scripted b m) e = both_scripted a b n m (script_same a b (written_lines _ _ _ _ e)) (written_budget _ _ _ _ e)
+task_same (Scripted a n) (Scripted b m) e = let same = script_same a b (cc) in cc
 task_same (Scripted a n) (Planned cs) e = cc
 task_same (Planned cs) (Scripted b m) e = cc
 task_same (Planned cs) (Planned ds) e = cc
@@ -101,12 +77,9 @@ nexus_same m n e =
     ap (λ w. record { name = w.name; role = w.role; start = w.start; pending = w.pending; task = m.task; busy = w.busy; full = w.full }) e
     ∙ ap (λ t. record { name = n.name; role = n.role; start = n.start; pending = n.pending; task = t; busy = n.busy; full = n.full }) (task_same m.task n.task (ap (λ w. w.task) e))
 
-same_nexuses : (m n : Nexus) (ms ns : List Nexus) → m ≡ n → ms ≡ ns → m ∷ ms ≡ n ∷ ns
-same_nexuses m n ms ns e f = cc
-
 nexuses_same : (ms ns : List Nexus) → map nexus_written ms ≡ map nexus_written ns → ms ≡ ns
 nexuses_same [] [] e = refl
-nexuses_same (m ∷ ms) (n ∷ ns) e = same_nexuses m n ms ns (nexus_same m n (head_same _ _ _ _ e)) (nexuses_same ms ns (tail_same _ _ _ _ e))
+nexuses_same (m ∷ ms) (n ∷ ns) e = let first = nexus_same m n (head_same _ _ _ _ e) in let rest = nexuses_same ms ns (tail_same _ _ _ _ e) in cc
 nexuses_same _ _ e = cc
 
 scenario_same : (s t : Scenario) → s.version ≡ t.version → s.keys ≡ t.keys → s.reservations ≡ t.reservations → s.generation ≡ t.generation → s.resets ≡ t.resets → s.nexuses ≡ t.nexuses → s ≡ t

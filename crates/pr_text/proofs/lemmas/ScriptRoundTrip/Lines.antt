@@ -6,7 +6,7 @@ use Rattle.pr_lines.specs.CommandWords.{without_keys}
 use Rattle.pr_text.specs.Declarations.{repeating}
 use Rattle.pr_text.specs.Standing.{is_in_repeat, may_close}
 use Rattle.pr_text.specs.ScriptRoundTrip.{ScriptsHaveNoFault, said_by, number_of_line, script_said, within}
-use Rattle.pr_text.proofs.lemmas.Sound.Trees.{one_more, as_many}
+use Rattle.pr_text.proofs.lemmas.Sound.Trees.{count-cons}
 use Rattle.pr_text.proofs.lemmas.LineFaults.Order.{in_version, stated}
 use Rattle.pr_text.proofs.lemmas.ScriptRoundTrip.Versions.{body_dated, has_line}
 
@@ -110,10 +110,6 @@ begun_by : (b : Stmts) (g : Bool) → begins_body b ≡ true → begun_after b g
 begun_by none g h = cc
 begun_by (more x rest) g h = refl
 
-begun_still : (b : Stmts) → begun_after b true ≡ true
-begun_still none = refl
-begun_still (more x rest) = refl
-
 follows_first : (b : Stmts) → may_follow b [] false ≡ true
 follows_first (more (sends n d a) rest) = refl
 follows_first _ = refl
@@ -136,10 +132,10 @@ some_arm : (j : ℕ) → (j + 1 == 0) ≡ false
 some_arm j = grind (arith, nat_tests)
 
 stands_armed : (r s : ℕ) (c : Command) (j : ℕ) (bs : List OpenBlock) → count_by is_repeating bs ≡ r → count_by is_sending bs ≡ s → Stands r (s + 1) (sending c (j + 1) ∷ bs)
-stands_armed r s c j bs a b = record { repeats_are = as_many is_repeating (sending c (j + 1)) bs r refl a; sends_are = one_more is_sending (sending c (j + 1)) bs s refl b; free = some_arm j }
+stands_armed r s c j bs a b = record { repeats_are = omega (arith, count-cons is_repeating (sending c (j + 1)) bs, a); sends_are = omega (arith, count-cons is_sending (sending c (j + 1)) bs, b); free = some_arm j }
 
 stands_repeated : (r s : ℕ) (bs : List OpenBlock) → Stands r s bs → Stands (r + 1) s (repeating ∷ bs)
-stands_repeated r s bs h = record { repeats_are = one_more is_repeating repeating bs r refl h.repeats_are; sends_are = as_many is_sending repeating bs s refl h.sends_are; free = refl }
+stands_repeated r s bs h = record { repeats_are = omega (arith, count-cons is_repeating repeating bs, h.repeats_are); sends_are = omega (arith, count-cons is_sending repeating bs, h.sends_are); free = refl }
 
 same_at : (host budget : ℕ) (ls ks : List ScriptLine) (j k : ℕ) (bs cs : List OpenBlock) (f g : Bool) → ls ≡ ks → j ≡ k → bs ≡ cs → f ≡ g
     → open_at host budget ls j bs f ≡ open_at host budget ks k cs g
@@ -153,18 +149,6 @@ block_joined ls x inner = simp append_assoc
 
 arms_joined : (ls : List ScriptLine) (x : ScriptLine) (body rest : List ScriptLine) → ((ls ++ x ∷ []) ++ body) ++ rest ≡ ls ++ x ∷ (body ++ rest)
 arms_joined ls x body rest = simp append_assoc
-
-sum_least : (k a b : ℕ) → k + (a + b) ≤ MOST_STATEMENTS → k + a ≤ MOST_STATEMENTS
-sum_least k a b h = omega arith
-
-sum_rest : (k a b : ℕ) → k + (a + b) ≤ MOST_STATEMENTS → (k + a) + b ≤ MOST_STATEMENTS
-sum_rest k a b h = omega arith
-
-from_none : (n m : ℕ) → n ≤ m → 0 + n ≤ m
-from_none n m h = omega arith
-
-arms_rest : (j n : ℕ) → j + (1 + n) ≤ MOST_ARMS → (j + 1) + n ≤ MOST_ARMS
-arms_rest j n h = omega arith
 
 -- ---- statements, bodies and arms
 
@@ -180,7 +164,7 @@ mutual
       (send_goes m keys c host budget ls k bs g stands.free written.0 (short_now k _ few) (shallow _ s stands.sends_are q.0))
       ∙ (ap (λ v. all_stepped n keys v (open_at host budget (ls ++ send_at m c ∷ []) (k + 1) (sending c 0 ∷ bs) false)) (append_assoc (arms_lines a) (block_done ∷ []) u)
       ∙ (arms_goes n keys host budget c a r s (block_done ∷ u) (ls ++ send_at m c ∷ []) (k + 1) 0 bs false q.1 stands.repeats_are stands.sends_are
-      (from_none (count_of_arms a) MOST_ARMS (leb-true (count_of_arms a) MOST_ARMS written.1)) (sum_rest k 1 (count_in_arms a) few)
+      (omega (arith, leb-true (count_of_arms a) MOST_ARMS written.1)) (omega arith)
       ∙ (goes _ _ (all_stepped n keys u) (done_goes n keys host budget _ _ (sending c (0 + count_of_arms a)) bs _ refl)
       ∙ ap (all_stepped n keys u) (same_at host budget _ _ _ _ bs bs true true (block_joined ls (send_at m c) (arms_lines a)) (add_assoc k 1 (count_in_arms a)) refl refl))))
   statement_goes n keys host budget (repeats count b) r s u ls k bs g fits stands begins few =
@@ -192,7 +176,7 @@ mutual
       (repeat_goes n keys count host budget ls k bs g stands.free (short_now k _ few) (shallow _ r stands.repeats_are q.0) (and_from _ _ written.0 body.0))
       ∙ (ap (λ v. all_stepped n keys v (open_at host budget (ls ++ repeat_of count ∷ []) (k + 1) (repeating ∷ bs) false)) (append_assoc (body_lines b) (block_done ∷ []) u)
       ∙ (body_goes n keys host budget b (r + 1) s (block_done ∷ u) (ls ++ repeat_of count ∷ []) (k + 1) (repeating ∷ bs) false q.1 (stands_repeated r s bs stands)
-      (follows_repeat b (repeating ∷ bs) false body.1) (sum_rest k 1 (count_of_all b) few)
+      (follows_repeat b (repeating ∷ bs) false body.1) (omega arith)
       ∙ (goes _ _ (all_stepped n keys u) (done_goes n keys host budget _ _ repeating bs _ (begun_by b false body.1))
       ∙ ap (all_stepped n keys u) (same_at host budget _ _ _ _ bs bs true true (block_joined ls (repeat_of count) (body_lines b)) (add_assoc k 1 (count_of_all b)) refl refl))))
   statement_goes n keys host budget breaks r s u ls k bs g fits stands begins few =
@@ -210,9 +194,9 @@ mutual
   body_goes n keys host budget (more x rest) r s u ls k bs g fits stands follows few =
       let p = and_parts (statement_fits keys r s x) _ fits in
       ap (λ v. all_stepped n keys v (open_at host budget ls k bs g)) (append_assoc (statement_lines x) (body_lines rest) u)
-      ∙ (statement_goes n keys host budget x r s (body_lines rest ++ u) ls k bs g p.0 stands follows (sum_least k (count_of x) (count_of_all rest) few)
-      ∙ (body_goes n keys host budget rest r s u (ls ++ statement_lines x) (k + count_of x) bs true p.1 stands (follows_one rest bs) (sum_rest k (count_of x) (count_of_all rest) few)
-      ∙ ap (all_stepped n keys u) (same_at host budget _ _ _ _ bs bs _ true (append_assoc ls (statement_lines x) (body_lines rest)) (add_assoc k (count_of x) (count_of_all rest)) refl (begun_still rest))))
+      ∙ (statement_goes n keys host budget x r s (body_lines rest ++ u) ls k bs g p.0 stands follows (omega arith)
+      ∙ (body_goes n keys host budget rest r s u (ls ++ statement_lines x) (k + count_of x) bs true p.1 stands (follows_one rest bs) (omega arith)
+      ∙ ap (all_stepped n keys u) (same_at host budget _ _ _ _ bs bs _ true (append_assoc ls (statement_lines x) (body_lines rest)) (add_assoc k (count_of x) (count_of_all rest)) refl (elim rest as (λ b. begun_after b true ≡ true) [ none ↦ refl | more y others ↦ refl ]))))
 
   arms_goes : (n : ℕ) (keys : List ℕ) (host budget : ℕ) (c : Command) (a : Arms) (r s : ℕ) (u ls : List ScriptLine) (k j : ℕ) (bs : List OpenBlock) (g : Bool)
       → arms_fit keys r (s + 1) c a ≡ true → count_by is_repeating bs ≡ r → count_by is_sending bs ≡ s → j + count_of_arms a ≤ MOST_ARMS → k + count_in_arms a ≤ MOST_STATEMENTS
@@ -228,9 +212,9 @@ mutual
       (arm_goes n keys t c j host budget ls k bs g known.0 known.1 (few_arms j (count_of_arms rest) arms))
       ∙ (ap (λ v. all_stepped n keys v (open_at host budget (ls ++ arm_on t ∷ []) k (sending c (j + 1) ∷ bs) false)) (append_assoc (body_lines b) (arms_lines rest) u)
       ∙ (body_goes n keys host budget b r (s + 1) (arms_lines rest ++ u) (ls ++ arm_on t ∷ []) k (sending c (j + 1) ∷ bs) false q.1 (stands_armed r s c j bs repeated sent)
-      (follows_in_arm b c (j + 1) bs false) (sum_least k (count_of_all b) (count_in_arms rest) few)
+      (follows_in_arm b c (j + 1) bs false) (omega arith)
       ∙ (arms_goes n keys host budget c rest r s u ((ls ++ arm_on t ∷ []) ++ body_lines b) (k + count_of_all b) (j + 1) bs (begun_after b false) p.1 repeated sent
-      (arms_rest j (count_of_arms rest) arms) (sum_rest k (count_of_all b) (count_in_arms rest) few)
+      (omega arith) (omega arith)
       ∙ ap (all_stepped n keys u) (same_at host budget _ _ _ _ _ _ _ _ (arms_joined ls (arm_on t) (body_lines b) (arms_lines rest)) (add_assoc k (count_of_all b) (count_in_arms rest))
       (same_arms c _ _ bs (add_assoc j 1 (count_of_arms rest))) refl))))
 
@@ -262,7 +246,7 @@ reread n d host budget b known has fits =
     let script = open_at host budget (body_lines b) (0 + count_of_all b) [] (begun_after b false) in
     let steps : all_stepped n keys (body_lines b) (begun_script host budget) ≡ Ok script =
     ap (λ ls. all_stepped n keys ls (open_at host budget [] 0 [] false)) (sym (append-nil (body_lines b)))
-    ∙ body_goes n keys host budget b 0 0 [] [] 0 [] false p.0 (record { repeats_are = refl; sends_are = refl; free = refl }) (follows_first b) (from_none (count_of_all b) MOST_STATEMENTS (leb-true (count_of_all b) MOST_STATEMENTS q.0)) in
+    ∙ body_goes n keys host budget b 0 0 [] [] 0 [] false p.0 (record { repeats_are = refl; sends_are = refl; free = refl }) (follows_first b) (omega (arith, leb-true (count_of_all b) MOST_STATEMENTS q.0)) in
     record {
       script = script;
       stepped = all_step n d (body_lines b) (begun_script host budget) known (body_dated d.version b ∙ has) ∙ goes _ script (λ o. Ok (within d o)) steps;

@@ -1,10 +1,12 @@
 -- What is declared fits.
-use Rattle.pr_text.proofs.Common.{◌≡◌, ℕ, Bool, true, false, cond, not, ◌&&◌, List, [], ◌∷◌, map, length, nat_le, ◌==◌, Some, None, Option, sym, refl, ap, ◌∙◌, subst, list_all, unwrap_or, and_parts, is_name, Fits, is_version, is_count, are_resets, most_declared, is_role, is_start, is_nexus, Scenario, Nexus, Task, Scripted, Planned, and_from, Declared, WrittenTask, scripted, planned, Declaration, Context, before_all, outside, in_script, in_plan, declared_keys, nexus_written, nexus_declared, IsDeclaredBy, task_written, body_lines, missing_fault, IsDated, IsTask, IsDeclaration, AreDeclarations, IsSound}
+use Rattle.pr_text.proofs.Common.{◌≡◌, ℕ, true, not, ◌&&◌, List, [], ◌∷◌, map, length, nat_le, ◌==◌, Some, None, Option, sym, refl, ap, ◌∙◌, subst, list_all, unwrap_or, and_parts, is_name, Fits, is_version, is_count, are_resets, most_declared, is_role, is_start, is_nexus, Scenario, Nexus, Task, Scripted, Planned, and_from, Declared, WrittenTask, scripted, planned, Declaration, Context, before_all, outside, in_script, in_plan, declared_keys, nexus_written, nexus_declared, IsDeclaredBy, task_written, body_lines, missing_fault, IsDated, IsTask, IsDeclaration, AreDeclarations, IsSound}
+use Rattle.std.proofs.lemmas.Bool.{not_from_false}
 use Rattle.std.proofs.lemmas.List.{length-map}
 use Rattle.std.proofs.lemmas.Simd.{map-map}
 use Rattle.pr_roles.specs.Fitting.{is_task, is_task_of, are_of}
 use Rattle.pr_text.specs.inside.Endings.{missing_at}
 use Rattle.pr_text.specs.inside.Sound.{is_written_of, is_declared_of}
+use Rattle.pr_text.proofs.lemmas.Sound.Scripts.{skips}
 use Rattle.pr_text.proofs.lemmas.Sound.Trees.{whole_fits}
 use Rattle.pr_text.proofs.lemmas.ScenarioRoundTrip.Uniqueness.{head_same, tail_same}
 use Rattle.pr_text.proofs.lemmas.ScriptRoundTrip.Versions.{body_dated}
@@ -63,13 +65,9 @@ each_has v (n ∷ ns) (x ∷ xs) e h =
 
 -- ---- the whole
 
-some_left : {A : Type 0} (b : Bool) (x : A) (o : Option A) → cond b (Some x) o ≡ None → not b ≡ true
-some_left true x o e = cc
-some_left false x o e = refl
-
 some_nexus : (n : ℕ) (d : Declared) (p : Context) → missing_at n d p ≡ None → not (length d.nexuses == 0) ≡ true
 some_nexus n d before_all e = cc
-some_nexus n d outside e = some_left (length d.nexuses == 0) _ _ e
+some_nexus n d outside e = not_from_false _ (skips (length d.nexuses == 0) _ _ e).0
 some_nexus n d (in_script o) e = cc
 some_nexus n d (in_plan h commands) e = cc
 

@@ -1,16 +1,15 @@
 -- Keys, nexuses, and reservations stay sound with one line more.
-use Rattle.pr_text.proofs.Common.{◌≡◌, ℕ, suc, ◌+◌, ◌<◌, Bool, true, false, cond, not, ◌&&◌, ◌||◌, List, [], ◌∷◌, ◌++◌, map, length, is_some, nat_lt, nat_le, ◌==◌, Some, None, Option, option_map, position, option_and_then, bytes_eq, sym, refl, ap, ◌∙◌, subst, arith, length-append, list_all, list_any, position_from, unwrap_or, and_parts, false≢true, nat_tests, position_from-zero, Command, Held, is_written, test_fits, is_name, Test, are_distinct, is_action, is_role, is_start, MOST_CLAUSES, MOST_PLANNED, Clause, each, and_from, Declared, WrittenTask, scripted, planned, Declaration, outside, OpenBlock, sending, declared_keys, held_of, number_of, ScriptLine, arm_on, send_at, awaits_arm, start_of, IsTask, IsDeclaration, AreDeclarations, IsSound, Reached, may, may_all, IsPlace, not-false, or_parts, keys_line}
+use Rattle.pr_text.proofs.Common.{◌≡◌, ℕ, suc, ◌+◌, ◌<◌, Bool, true, false, cond, not, ◌&&◌, ◌||◌, List, [], ◌∷◌, ◌++◌, map, length, is_some, nat_lt, nat_le, ◌==◌, Some, None, Option, option_map, position, option_and_then, bytes_eq, sym, refl, ap, ◌∙◌, subst, arith, list_all, list_any, position_from, unwrap_or, and_parts, false≢true, nat_tests, position_from-zero, Command, Held, is_written, is_name, Test, are_distinct, is_action, MOST_PLANNED, each, and_from, Declared, WrittenTask, scripted, planned, Declaration, outside, OpenBlock, sending, declared_keys, held_of, number_of, ScriptLine, arm_on, send_at, start_of, IsTask, IsDeclaration, AreDeclarations, IsSound, Reached, may, may_all, IsPlace, not-false, not-true, or_parts, keys_line}
 use Rattle.std.proofs.lemmas.Bool.{false_from_ne_true, lt-ltb}
+use Rattle.std.proofs.lemmas.List.{length_push, map_push}
+use Rattle.std.proofs.lemmas.List.Folds.{list_any-append}
 use Rattle.std.proofs.lemmas.List.Sums.{AllPass-from_list_all}
 use Rattle.std.proofs.lemmas.Slice.Eq.{bytes_eq-Decides}
 use Rattle.pr_cdb.specs.declared.command.Kind.{Kind}
-use Rattle.pr_cdb.specs.declared.command.Command.TheVariants as command
 use Rattle.pr_registry.specs.declared.held.Held.TheVariants.{One, All as Everybody}
 use Rattle.pr_registry.specs.Registrations.{IsKey, is_all}
 use Rattle.pr_script.specs.declared.script.Test.TheVariants as test
-use Rattle.pr_script.specs.Grammar.{is_written_key, is_declared, is_read_keys, is_read_reservation}
 use Rattle.pr_roles.specs.declared.role.Action.{Action}
-use Rattle.pr_roles.specs.declared.role.Action.TheVariants as action
 use Rattle.std.specs.Prelude.{is_none}
 use Rattle.pr_roles.specs.Fitting.{are_reservations, is_reservation, is_same_reservation, is_alternative}
 use Rattle.pr_roles.specs.declared.limits.TheConstants.{MOST_KEYS}
@@ -20,58 +19,21 @@ use Rattle.pr_text.specs.inside.Sound.{at_first, may_arm, next}
 use Rattle.pr_lines.proofs.lemmas.ScenarioLines.Terms.{is_key, is_wanted}
 use Rattle.pr_text.specs.LineFaults.{past_limit}
 use Rattle.pr_text.specs.NextLine.{with_more}
-use Rattle.pr_text.proofs.lemmas.Sound.Scripts.{skips}
-
-all_more : {A : Type 0} (p q : A → Bool) → ((x : A) → p x ≡ true → q x ≡ true) → (xs : List A) → list_all p xs ≡ true → list_all q xs ≡ true
-all_more p q each [] h = refl
-all_more p q each (x ∷ xs) h = let parts = and_parts (p x) _ h in and_from _ _ (each x parts.0) (all_more p q each xs parts.1)
+use Rattle.pr_text.proofs.lemmas.Sound.Scripts.{all_more, skips}
 
 -- ---- what holds without keys holds under any
 
-or_more : (a b : Bool) → (a || false) ≡ true → (a || b) ≡ true
-or_more true b h = refl
-or_more false b h = cc
-
 module _ (keys : List ℕ) where
-  written_key : (k : ℕ) → is_written_key [] k ≡ true → is_written_key keys k ≡ true
-  written_key k h = or_more (k == 0) (is_declared keys k) h
-
-  two_keys : (j k : ℕ) → (is_written_key [] j && is_written_key [] k) ≡ true → (is_written_key keys j && is_written_key keys k) ≡ true
-  two_keys j k h = let parts = and_parts (is_written_key [] j) _ h in and_from _ _ (written_key j parts.0) (written_key k parts.1)
-
-  preempt_keys : (j k : ℕ) (b : Bool) → (is_written_key [] j && (is_written_key [] k && b)) ≡ true → (is_written_key keys j && (is_written_key keys k && b)) ≡ true
-  preempt_keys j k b h =
-      let parts = and_parts (is_written_key [] j) _ h in
-      let rest = and_parts (is_written_key [] k) _ parts.1 in
-      and_from _ _ (written_key j parts.0) (and_from _ _ (written_key k rest.0) rest.1)
-
   written_more : (c : Command) → is_written [] c ≡ true → is_written keys c ≡ true
-  written_more command.TestUnitReady h = refl
-  written_more command.RequestSense h = refl
-  written_more (command.Read lba blocks) h = refl
-  written_more (command.Write lba blocks) h = refl
-  written_more (command.ReadKeys alloc) h = h
-  written_more (command.ReadReservation alloc) h = h
-  written_more (command.ReportCapabilities alloc) h = h
-  written_more (command.Register rk sark) h = two_keys rk sark h
-  written_more (command.Preempt rk sark kind) h = preempt_keys rk sark (is_some kind) h
-  written_more (command.PreemptAbort rk sark kind) h = preempt_keys rk sark (is_some kind) h
-  written_more _ h = written_key _ h
-
-  test_more : (c : Command) (t : Test) → test_fits [] c t ≡ true → test_fits keys c t ≡ true
-  test_more c (test.GoodHas key) h = absurd (false≢true (and_parts (is_read_keys c) _ h).1)
-  test_more c (test.GoodHeld key) h = let parts = and_parts (is_read_reservation c) _ h in and_from _ _ parts.0 (written_key key parts.1)
-  test_more c _ h = h
+  written_more _ h = grind (arith, nat_tests)
 
   arm_more : (t : Test) (bs : List OpenBlock) → may_arm [] t bs ≡ true → may_arm keys t bs ≡ true
-  arm_more t ((sending c arms) ∷ bs) h = let parts = and_parts (test_fits [] c t) _ h in and_from _ _ (test_more c t parts.0) parts.1
-  arm_more t _ h = h
+  arm_more (test.GoodHas key) ((sending c arms) ∷ bs) h = grind (arith, nat_tests)
+  arm_more (test.GoodHeld key) ((sending c arms) ∷ bs) h = grind (arith, nat_tests)
+  arm_more _ _ h = h
 
   line_more : (s : Reached) (l : ScriptLine) → may [] s l ≡ true → may keys s l ≡ true
-  line_more s (send_at n c) h =
-      let parts = and_parts (not (awaits_arm s.blocks)) _ h in
-      let rest = and_parts (is_written [] c) _ parts.1 in
-      and_from _ _ parts.0 (and_from _ _ (written_more c rest.0) rest.1)
+  line_more s (send_at n c) h = grind (arith, nat_tests, written_more c)
   line_more s (arm_on t) h = arm_more t s.blocks h
   line_more s _ h = h
 
@@ -85,31 +47,17 @@ module _ (keys : List ℕ) where
   task_more (Some (planned commands)) h = let parts = and_parts (nat_le (length commands) MOST_PLANNED) _ h in and_from _ _ parts.0 (all_more (is_written []) (is_written keys) written_more commands parts.1)
 
   action_more : (a : Action) → is_action [] a ≡ true → is_action keys a ≡ true
-  action_more (action.Register key) h = cc
-  action_more (action.Preempt key kind) h = written_key key h
-  action_more _ h = refl
+  action_more _ h = grind (arith, nat_tests)
 
   alternative_more : (o : Option ℕ) → is_alternative [] o ≡ true → is_alternative keys o ≡ true
-  alternative_more None h = refl
-  alternative_more (Some key) h = cc
-
-  role_more : (clauses : List Clause) → is_role [] clauses ≡ true → is_role keys clauses ≡ true
-  role_more clauses h =
-      let parts = and_parts (nat_le (length clauses) MOST_CLAUSES) _ h in
-      and_from _ _ parts.0 (all_more (λ c. is_action [] c.action) (λ c. is_action keys c.action) (λ c k. action_more c.action k) clauses parts.1)
-
-  start_more : (xs : List (Option ℕ)) → is_start [] xs ≡ true → is_start keys xs ≡ true
-  start_more xs h =
-      let parts = and_parts (not (length xs == 0)) _ h in
-      let rest = and_parts (list_all (is_alternative []) xs) _ parts.1 in
-      and_from _ _ parts.0 (and_from _ _ (all_more (is_alternative []) (is_alternative keys) alternative_more xs rest.0) rest.1)
+  alternative_more _ h = grind (arith, nat_tests)
 
   declarations_more : (xs : List Declaration) → AreDeclarations [] xs → AreDeclarations keys xs
   declarations_more [] h = tt
   declarations_more (x ∷ xs) h =
-      let parts = and_parts (is_name x.name) _ h.0.described in
-      let rest = and_parts (is_role [] x.role) _ parts.1 in
-      (record { described = and_from _ _ parts.0 (and_from _ _ (role_more x.role rest.0) (start_more (start_of x) rest.1)); task = task_more x.task h.0.task }, declarations_more xs h.1)
+      let acts = all_more (λ c. is_action [] c.action) (λ c. is_action keys c.action) (λ c k. action_more c.action k) x.role in
+      let starts = all_more (is_alternative []) (is_alternative keys) alternative_more (start_of x) in
+      (record { described = grind (arith, nat_tests, acts, starts, h.0.described); task = task_more x.task h.0.task }, declarations_more xs h.1)
 
 key_is : (k : ℕ) → is_key k ≡ true → IsKey k
 key_is k h = grind (arith, nat_tests)
@@ -175,47 +123,31 @@ number_none xs name e =
 pub other_way : (xs ys : List ℕ) → bytes_eq xs ys ≡ false → bytes_eq ys xs ≡ false
 other_way xs ys e = false_from_ne_true (bytes_eq ys xs) (λ h. false≢true (sym e ∙ (bytes_eq-Decides xs ys).1 (sym ((bytes_eq-Decides ys xs).0 h))))
 
-no_other : (xs : List Declaration) (x y : Declaration) → list_any (λ z. bytes_eq z y.name) (map (λ w. w.name) xs) ≡ false → bytes_eq x.name y.name ≡ false
-    → not (list_any (λ z. bytes_eq z y.name) (map (λ w. w.name) (xs ++ x ∷ []))) ≡ true
-no_other [] x y h e = rw e refl
-no_other (z ∷ xs) x y h e =
-    let parts = or_parts (bytes_eq z.name y.name) _ h in
-    rw parts.0 (no_other xs x y parts.1 e)
-
 names_more : (xs : List Declaration) (x : Declaration) → are_distinct bytes_eq (map (λ y. y.name) xs) ≡ true → list_any (λ y. bytes_eq y.name x.name) xs ≡ false
     → are_distinct bytes_eq (map (λ y. y.name) (xs ++ x ∷ [])) ≡ true
 names_more [] x h fresh = refl
 names_more (y ∷ xs) x h fresh =
     let parts = and_parts (not (list_any (λ z. bytes_eq z y.name) (map (λ w. w.name) xs))) _ h in
     let news = or_parts (bytes_eq y.name x.name) _ fresh in
-    and_from _ _ (no_other xs x y (false_from_ne_true _ (λ k. false≢true (sym (ap not k) ∙ parts.0))) (other_way y.name x.name news.0)) (names_more xs x parts.1 news.1)
-
-lt_more : (h n : ℕ) → nat_lt h n ≡ true → nat_lt h (n + 1) ≡ true
-lt_more h n e = grind (arith, nat_tests)
+    let apart = list_any-append (λ z. bytes_eq z y.name) (map (λ w. w.name) xs) (x.name ∷ []) in
+    and_from _ _ (rw (map_push (λ w. w.name) xs x, apart, not-true _ parts.0, other_way y.name x.name news.0) refl) (names_more xs x parts.1 news.1)
 
 held_more : (n : ℕ) (v : Option Held) → is_reservation n v ≡ true → is_reservation (n + 1) v ≡ true
-held_more n None h = refl
-held_more n (Some (One kind g)) h = let parts = and_parts (not (is_all kind)) _ h in and_from _ _ parts.0 (lt_more g n parts.1)
-held_more n (Some (Everybody kind)) h = h
+held_more n (Some (One kind g)) h = grind (arith, nat_tests)
+held_more n _ h = h
 
 reservations_more : (vs : List (Option Held)) (n : ℕ) → are_reservations n vs ≡ true → are_reservations (n + 1) vs ≡ true
-reservations_more vs n h =
-    let parts = and_parts (not (length vs == 0)) _ h in
-    let rest = and_parts (list_all (is_reservation n) vs) _ parts.1 in
-    and_from _ _ parts.0 (and_from _ _ (all_more (is_reservation n) (is_reservation (n + 1)) (held_more n) vs rest.0) rest.1)
+reservations_more vs n h = grind (arith, nat_tests, all_more (is_reservation n) (is_reservation (n + 1)) (held_more n) vs)
 
 declarations_with : (keys : List ℕ) (xs : List Declaration) (x : Declaration) → AreDeclarations keys xs → IsDeclaration keys x → AreDeclarations keys (xs ++ x ∷ [])
 declarations_with keys [] x all is = (is, tt)
 declarations_with keys (y ∷ xs) x all is = (all.0, declarations_with keys xs x all.1 is)
 
-pub one_long : (xs : List Declaration) (x : Declaration) → length (xs ++ x ∷ []) ≡ length xs + 1
-one_long xs x = omega (arith, length-append xs (x ∷ []))
-
 pub nexus_sound : (n : ℕ) (guest : Bool) (name : List ℕ) (d : Declared) → d.place ≡ outside → is_name name ≡ true → IsSound n d → is_some (number_of d.nexuses name) ≡ false
     → IsSound (n + 1) (with_more (n + 1) guest name d)
 nexus_sound n guest name d at named h free = record {
   keys = h.keys;
-  reservations = rw (one_long d.nexuses _) (reservations_more (reservations_of d) (length d.nexuses) h.reservations);
+  reservations = rw (length_push d.nexuses _) (reservations_more (reservations_of d) (length d.nexuses) h.reservations);
   apart = names_more d.nexuses _ h.apart (number_none d.nexuses name free);
   each = declarations_with (declared_keys d) d.nexuses _ h.each (record { described = and_from _ _ named refl; task = tt });
   place = subst (IsPlace (declared_keys d) (n + 1)) (sym at) tt;

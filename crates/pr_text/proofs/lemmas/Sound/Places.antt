@@ -1,6 +1,7 @@
 -- What is declared stays sound with one line more.
-use Rattle.pr_text.proofs.Common.{◌≡◌, ℕ, zero, suc, ◌+◌, ◌≤◌, true, false, cond, not, ◌&&◌, List, [], ◌∷◌, ◌++◌, map, length, is_some, nat_le, ◌==◌, slice_set, Some, None, Ok, Option, sym, refl, ap, ◌∙◌, subst, arith, length-append, slice_get, and_parts, nat_tests, list_all-append, Attention, is_written, is_name, MOST_BUDGET, is_action, is_role, MOST_CLAUSES, MOST_PLANNED, Clause, states, ScenarioLine, DeclaringLine, fence_line, declares, nexus_line, start_line, pending_line, refusals_line, resets_line, role_line, script_line, plan_line, end_line, command_line, keys_line, reservation_line, generation_line, RefusalKind, ParsedCommand, is_item, and_from, Declared, WrittenTask, scripted, planned, Declaration, Context, outside, in_script, in_plan, codes_of, declared_keys, number_of, with_count, with_task, begun_script, item_placed, IsTask, IsDeclaration, AreDeclarations, IsSound, IsPlace, le-leb, not-false, or_parts, StatementLine, option_map_or, with_statement_line, since, nat_lt, Bool}
-use Rattle.std.proofs.lemmas.List.{length-set}
+use Rattle.pr_text.proofs.Common.{◌≡◌, ℕ, zero, suc, ◌+◌, true, false, cond, not, ◌&&◌, List, [], ◌∷◌, ◌++◌, map, length, is_some, nat_le, ◌==◌, slice_set, Some, None, Ok, Option, sym, refl, ap, ◌∙◌, subst, arith, list_all, slice_get, and_parts, Attention, is_written, is_name, MOST_BUDGET, is_action, is_role, MOST_CLAUSES, MOST_PLANNED, Clause, states, ScenarioLine, DeclaringLine, fence_line, declares, nexus_line, start_line, pending_line, refusals_line, resets_line, role_line, script_line, plan_line, end_line, command_line, keys_line, reservation_line, generation_line, RefusalKind, ParsedCommand, is_item, and_from, Declared, WrittenTask, scripted, planned, Declaration, Context, outside, in_script, in_plan, codes_of, declared_keys, number_of, with_count, with_task, begun_script, item_placed, IsTask, IsDeclaration, AreDeclarations, IsSound, IsPlace, le-leb, not-false, or_parts, StatementLine, option_map_or, with_statement_line, since, nat_lt, Bool}
+use Rattle.std.proofs.lemmas.Bool.{leb-false}
+use Rattle.std.proofs.lemmas.List.{length-set, length_push}
 use Rattle.pr_lines.specs.declared.item.RefusalKind.TheVariants as refusal
 use Rattle.pr_text.specs.declared.fault.Which.TheVariants as which
 use Rattle.pr_text.specs.declared.fault.ReadError.TheVariants as fault
@@ -10,7 +11,7 @@ use Rattle.pr_text.specs.Standing.{by_place, of_plan, of_script}
 use Rattle.std.specs.Prelude.{is_none}
 use Rattle.pr_text.specs.Declaring.{holds_of, is_spelled, nexus_named}
 use Rattle.pr_text.specs.inside.Sound.{AreBegun}
-use Rattle.pr_text.proofs.lemmas.Sound.Scripts.{Faultless, faultless, passes, script_sound, skips, stands_outside}
+use Rattle.pr_text.proofs.lemmas.Sound.Scripts.{Faultless, all_push, faultless, passes, script_sound, skips, stands_outside}
 use Rattle.pr_text.proofs.lemmas.Sound.Lists.{keys_sound, nexus_sound, reservation_sound}
 
 -- ---- the same, at another place
@@ -123,14 +124,12 @@ refusals_sound n r name count d at sound h =
     named_sound n name (with_count r count) d at sound (clean (n + 1) (refusals_line r name count) d h).known
     (λ x is was. (counted_name r count x, counted_is (declared_keys d) r count x was))
 
-few_more : (k : ℕ) → nat_le MOST_CLAUSES k ≡ false → k + 1 ≤ MOST_CLAUSES
-few_more k h = grind (arith, nat_tests)
-
-role_more : (keys : List ℕ) (clauses : List Clause) (c : Clause) → is_role keys clauses ≡ true → is_action keys c.action ≡ true → nat_le MOST_CLAUSES (length clauses) ≡ false → is_role keys (clauses ++ c ∷ []) ≡ true
-role_more keys clauses c h k few =
-    let parts = and_parts (nat_le (length clauses) MOST_CLAUSES) _ h in
-    and_from _ _ (le-leb (length (clauses ++ c ∷ [])) MOST_CLAUSES (omega (arith, length-append clauses (c ∷ []), few_more (length clauses) few)))
-    (list_all-append (λ clause. is_action keys clause.action) clauses (c ∷ []) ∙ and_from _ _ parts.1 (and_from _ _ k refl))
+-- a list that is not full takes one more of what may stand in it
+fits_more : {A : Type 0} (most : ℕ) (p : A → Bool) (xs : List A) (x : A) → (nat_le (length xs) most && list_all p xs) ≡ true → p x ≡ true → nat_le most (length xs) ≡ false
+    → (nat_le (length (xs ++ x ∷ [])) most && list_all p (xs ++ x ∷ [])) ≡ true
+fits_more most p xs x h is few =
+    let parts = and_parts (nat_le (length xs) most) _ h in
+    and_from _ _ (le-leb (length (xs ++ x ∷ [])) most (omega (arith, length_push xs x, leb-false most (length xs) few))) (all_push p xs x parts.1 is)
 
 role_sound : (n : ℕ) (name : List ℕ) (clause : Clause) (d : Declared) → d.place ≡ outside → IsSound n d → IsClean (n + 1) (role_line name clause) d
     → IsSound (n + 1) (with_declared (n + 1) d (role_line name clause))
@@ -142,7 +141,7 @@ role_sound n name clause d at sound h =
     let parts = and_parts (is_name x.name) _ was.described in
     let role = and_parts (is_role keys x.role) _ parts.1 in
     let short = sym (ap (λ o. option_map_or (λ y. nat_le MOST_CLAUSES (length y.role)) o false) is) ∙ few in
-    let more = role_more keys x.role clause role.0 (not-false _ b.declared) short in
+    let more = fits_more MOST_CLAUSES (λ c. is_action keys c.action) x.role clause role.0 (not-false _ b.declared) short in
     (refl, record { described = and_from _ _ parts.0 (and_from _ _ more role.1); task = was.task }))
 
 -- a line of something else than nexuses and keys
@@ -206,18 +205,13 @@ stated_sound : (keys : List ℕ) (n : ℕ) (l : StatementLine) (p : Context) →
 stated_sound keys n l (in_script o) s at h = script_sound keys n l o s at h
 stated_sound keys n l _ s at h = cc
 
-fewer : (k : ℕ) → nat_le MOST_PLANNED k ≡ false → k + 1 ≤ MOST_PLANNED
-fewer k h = grind (arith, nat_tests)
-
 plan_sound : (keys : List ℕ) (n : ℕ) (s : ParsedCommand) (p : Context) → IsPlace keys n p
     → of_plan (Some (fault.Syntax (n + 1))) (λ h commands. command_fault (n + 1) keys commands s) p ≡ None → IsPlace keys (n + 1) (of_plan p (λ h commands. in_plan h (commands ++ s.command ∷ [])) p)
 plan_sound keys n s (in_plan g commands) at h =
     let b = faultless (n + 1) false false (not (is_spelled keys s)) false (cond (nat_le MOST_PLANNED (length commands)) (Some which.Plan) None) h in
     let few = (skips (nat_le MOST_PLANNED (length commands)) _ _ b.within).0 in
-    let parts = and_parts (nat_le (length commands) MOST_PLANNED) _ at in
     let written = (and_parts (is_written keys s.command) _ (not-false _ b.declared)).0 in
-    and_from _ _ (le-leb (length (commands ++ s.command ∷ [])) MOST_PLANNED (omega (arith, length-append commands (s.command ∷ []), fewer (length commands) few)))
-    (list_all-append (is_written keys) commands (s.command ∷ []) ∙ and_from _ _ parts.1 (and_from _ _ written refl))
+    fits_more MOST_PLANNED (is_written keys) commands s.command at written few
 plan_sound keys n s _ at h = cc
 
 -- the last line of a script or a plan; elsewhere it has a fault

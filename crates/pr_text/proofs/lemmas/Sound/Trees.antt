@@ -1,5 +1,5 @@
 -- Scripts whose lines may stand where they do follow the grammar.
-use Rattle.pr_text.proofs.Common.{◌≡◌, ℕ, suc, ◌+◌, ◌≤◌, Bool, true, false, cond, not, ◌&&◌, List, [], ◌∷◌, ◌++◌, nat_lt, nat_le, count_by, refl, ap, ◌∙◌, subst, append_assoc, append-nil, arith, and_parts, Command, is_written, test_fits, Stmt, Stmts, Arms, sends, repeats, none, more, no_arm, arm, breaks, stops, MOST_STATEMENTS, MOST_ARMS, MOST_OPEN, MOST_TURNS, and_from, OpenBlock, sending, ScriptLine, arm_on, block_done, statement_lines, body_lines, arms_lines, send_at, repeat_of, break_out, stop_with, is_repeating, is_sending, awaits_arm, is_statement, Reached, may, may_all, le-leb}
+use Rattle.pr_text.proofs.Common.{◌≡◌, ℕ, ◌+◌, ◌≤◌, Bool, true, false, cond, not, ◌&&◌, List, [], ◌∷◌, ◌++◌, nat_lt, nat_le, count_by, refl, ap, ◌∙◌, subst, append_assoc, append-nil, arith, and_parts, Command, is_written, test_fits, Stmt, Stmts, Arms, sends, repeats, none, more, no_arm, arm, breaks, stops, MOST_STATEMENTS, MOST_ARMS, MOST_OPEN, MOST_TURNS, and_from, OpenBlock, sending, ScriptLine, arm_on, block_done, statement_lines, body_lines, arms_lines, send_at, repeat_of, break_out, stop_with, is_repeating, is_sending, awaits_arm, is_statement, Reached, may, may_all, le-leb}
 use Rattle.std.proofs.lemmas.Bool.{ltb-true}
 use Rattle.std.proofs.lemmas.List.Sums.{sum_by-cons, sum_by-append}
 use Rattle.pr_script.specs.Grammar.{count_of_arms, begins_body, statement_fits, statements_fit, arms_fit, count_of, count_of_all, count_in_arms, lines_of, lines_of_all, lines_of_arms, rise_above, script_fits}
@@ -10,12 +10,6 @@ use Rattle.pr_text.specs.inside.Sound.{may_state, sends_in, AreWhole}
 
 pub count-cons : {X : Type 0} (p : X → Bool) (x : X) (xs : List X) → count_by p (x ∷ xs) ≡ cond (p x) 1 0 + count_by p xs
 count-cons p x xs = sum_by-cons (λ y. cond (p y) 1 0) x xs
-
-pub one_more : (p : OpenBlock → Bool) (b : OpenBlock) (bs : List OpenBlock) (n : ℕ) → p b ≡ true → count_by p bs ≡ n → count_by p (b ∷ bs) ≡ n + 1
-one_more p b bs n it e = let c = count-cons p b bs in let one : cond (p b) 1 0 ≡ suc 0 = ap (λ t. cond t 1 0) it in omega arith
-
-pub as_many : (p : OpenBlock → Bool) (b : OpenBlock) (bs : List OpenBlock) (n : ℕ) → p b ≡ false → count_by p bs ≡ n → count_by p (b ∷ bs) ≡ n
-as_many p b bs n it e = let c = count-cons p b bs in let nil : ◌≡◌ {A = ℕ} (cond (p b) 1 0) 0 = ap (λ t. cond t 1 0) it in omega arith
 
 abbrev state : List OpenBlock → Bool → Reached
 state bs begun = record { blocks = bs; begun = begun }
@@ -60,7 +54,7 @@ mutual
       let tests = and_parts (nat_le 1 n && nat_le n MOST_TURNS) _ (and_parts (not (awaits_arm bs)) _ parts.0).1 in
       let bounds = and_parts (nat_le 1 n) _ tests.0 in
       let inner : May keys (repeating ∷ bs) false (body_lines b ++ block_done ∷ rest) = subst (May keys (repeating ∷ bs) false) (append_assoc (body_lines b) (block_done ∷ []) rest) parts.1 in
-      let body = statements_stand keys b (repeating ∷ bs) false (block_done ∷ rest) (r + 1) s (one_more is_repeating repeating bs r refl er) (as_many is_sending repeating bs s refl es) inner in
+      let body = statements_stand keys b (repeating ∷ bs) false (block_done ∷ rest) (r + 1) s (omega (arith, count-cons is_repeating repeating bs, er)) (omega (arith, count-cons is_sending repeating bs, es)) inner in
       let done = and_parts body.begun _ body.behind in
       let room : nat_lt r MOST_OPEN ≡ true = rw er at tests.1 in
       record {
@@ -96,7 +90,7 @@ mutual
       let below = ltb-true k MOST_ARMS tests.1 in
       let whole : May keys (sending c (k + 1) ∷ bs) false (body_lines body ++ (arms_lines others ++ block_done ∷ rest)) = subst (May keys (sending c (k + 1) ∷ bs) false) (append_assoc (body_lines body) (arms_lines others) (block_done ∷ rest)) parts.1 in
       let inner = statements_stand keys body (sending c (k + 1) ∷ bs) false (arms_lines others ++ block_done ∷ rest) r (s + 1)
-      (as_many is_repeating (sending c (k + 1)) bs r refl er) (one_more is_sending (sending c (k + 1)) bs s refl es) whole in
+      (omega (arith, count-cons is_repeating (sending c (k + 1)) bs, er)) (omega (arith, count-cons is_sending (sending c (k + 1)) bs, es)) whole in
       let next = arms_stand keys others bs c (k + 1) inner.begun rest r s er es (omega arith) inner.behind in
       record {
         fitting = and_from _ _ (and_from _ _ tests.0 inner.fitting) next.fitting;

@@ -1,6 +1,7 @@
 -- What is declared with one line more is what the version has.
-use Rattle.pr_text.proofs.Common.{◌≡◌, ℕ, zero, suc, ◌+◌, Bool, true, false, not, ◌&&◌, List, [], ◌∷◌, ◌++◌, length, nat_lt, nat_le, slice_set, Some, None, Ok, Option, sym, refl, ap, ◌∙◌, subst, arith, list_all, slice_get, option_map_or, unwrap_or, and_parts, nat_tests, list_all-append, is_count, are_resets, most_declared, MOST_REFUSALS, MOST_RESETS, states, ScenarioLine, DeclaringLine, StatementLine, fence_line, declares, nexus_line, start_line, pending_line, refusals_line, resets_line, role_line, script_line, plan_line, end_line, send_line, on_line, done_line, repeat_line, break_line, stop_line, command_line, since, RefusalKind, ParsedCommand, is_item, and_from, Declared, WrittenTask, scripted, planned, Declaration, OpenLines, Context, before_all, outside, in_script, in_plan, codes_of, number_of, with_count, with_task, begun_script, with_statement_line, item_placed, ScriptLine, arm_on, block_done, send_at, repeat_of, break_out, stop_with, is_line_of, IsDated, le-leb, not-false}
-use Rattle.std.proofs.lemmas.List.{length-set}
+use Rattle.pr_text.proofs.Common.{◌≡◌, ℕ, zero, suc, ◌+◌, Bool, true, false, not, ◌&&◌, List, [], ◌∷◌, ◌++◌, length, nat_lt, nat_le, slice_set, Some, None, Ok, Option, sym, refl, ap, ◌∙◌, subst, arith, list_all, slice_get, option_map_or, unwrap_or, and_parts, is_count, are_resets, most_declared, MOST_REFUSALS, MOST_RESETS, states, ScenarioLine, DeclaringLine, StatementLine, fence_line, declares, nexus_line, start_line, pending_line, refusals_line, resets_line, role_line, script_line, plan_line, end_line, send_line, on_line, done_line, repeat_line, break_line, stop_line, command_line, since, RefusalKind, ParsedCommand, is_item, and_from, Declared, WrittenTask, scripted, planned, Declaration, OpenLines, Context, before_all, outside, in_script, in_plan, codes_of, number_of, with_count, with_task, begun_script, with_statement_line, item_placed, arm_on, block_done, send_at, repeat_of, break_out, stop_with, is_line_of, IsDated, le-leb, not-false}
+use Rattle.std.proofs.lemmas.Bool.{leb-false}
+use Rattle.std.proofs.lemmas.List.{length-set, length_push}
 use Rattle.pr_lines.specs.declared.item.RefusalKind.TheVariants as refusal
 use Rattle.pr_lines.specs.Versions.{declaring_since, statement_since}
 use Rattle.pr_script.specs.Versions.{since as test_since}
@@ -9,8 +10,7 @@ use Rattle.pr_text.specs.declared.fault.ReadError.TheVariants as fault
 use Rattle.pr_text.specs.LineFaults.{past_limit, names_unknown, keys_undeclared, says_again, declaring_fault, standing_fault, fault_at}
 use Rattle.pr_text.specs.NextLine.{with_nexus, with_declared, with_line}
 use Rattle.pr_text.specs.inside.Sound.{is_written_of, is_declared_of, IsPlaceOf}
-use Rattle.pr_text.proofs.lemmas.Sound.Lists.{one_long}
-use Rattle.pr_text.proofs.lemmas.Sound.Scripts.{faultless, passes, skips, stands_outside}
+use Rattle.pr_text.proofs.lemmas.Sound.Scripts.{all_push, faultless, passes, skips, stands_outside}
 use Rattle.pr_text.proofs.lemmas.ScriptRoundTrip.Versions.{by_has, count_kept, resets_kept}
 
 -- ---- one nexus
@@ -75,16 +75,13 @@ opened : (d : Declared) (g : ℕ → Context) (o : Option ℕ) → ((h : ℕ) �
 opened d g None is dated = dated
 opened d g (Some h) is dated = record { version = dated.version; resets = dated.resets; few = dated.few; each = dated.each; place = is h }
 
-few_more : (n most : ℕ) → nat_le most n ≡ false → nat_le (n + 1) most ≡ true
-few_more n most h = grind (arith, nat_tests)
-
 new_dated : (d : Declared) (x : Declaration) → is_declared_of d.version x ≡ true → nat_le (most_declared d.version) (length d.nexuses) ≡ false → d.place ≡ outside → IsDated d
     → IsDated (record d { nexuses = d.nexuses ++ x ∷ [] })
 new_dated d x is room at dated = record {
   version = dated.version;
   resets = dated.resets;
-  few = rw (one_long d.nexuses x) (few_more (length d.nexuses) (most_declared d.version) room);
-  each = list_all-append (is_declared_of d.version) d.nexuses (x ∷ []) ∙ and_from _ _ dated.each (and_from _ _ is refl);
+  few = rw (length_push d.nexuses x) (le-leb (length d.nexuses + 1) (most_declared d.version) (omega (arith, leb-false (most_declared d.version) (length d.nexuses) room)));
+  each = all_push (is_declared_of d.version) d.nexuses x dated.each is;
   place = subst (IsPlaceOf d.version d.resets (d.nexuses ++ x ∷ [])) (sym at) tt;
 }
 
@@ -113,17 +110,14 @@ declared_dated n _ d at has few dated = record { version = dated.version; resets
 
 -- ---- a line of a script or plan
 
-one_more : (v : ℕ) (ls : List ScriptLine) (l : ScriptLine) → is_line_of v l ≡ true → list_all (is_line_of v) ls ≡ true → list_all (is_line_of v) (ls ++ l ∷ []) ≡ true
-one_more v ls l is all = list_all-append (is_line_of v) ls (l ∷ []) ∙ and_from _ _ all (and_from _ _ is refl)
-
 stated_dated : (v n : ℕ) (l : StatementLine) (o : OpenLines) → nat_lt v (statement_since l) ≡ false → list_all (is_line_of v) o.lines ≡ true
     → list_all (is_line_of v) (with_statement_line n l o).lines ≡ true
-stated_dated v n (send_line s) o has all = one_more v o.lines (send_at n s.command) refl all
-stated_dated v n (on_line t) o has all = one_more v o.lines (arm_on t) (by_has (test_since t) v has) all
-stated_dated v n done_line o has all = one_more v o.lines block_done refl all
-stated_dated v n (repeat_line count) o has all = one_more v o.lines (repeat_of count) refl all
-stated_dated v n break_line o has all = one_more v o.lines break_out refl all
-stated_dated v n (stop_line word) o has all = one_more v o.lines (stop_with word) refl all
+stated_dated v n (send_line s) o has all = all_push (is_line_of v) o.lines (send_at n s.command) all refl
+stated_dated v n (on_line t) o has all = all_push (is_line_of v) o.lines (arm_on t) all (by_has (test_since t) v has)
+stated_dated v n done_line o has all = all_push (is_line_of v) o.lines block_done all refl
+stated_dated v n (repeat_line count) o has all = all_push (is_line_of v) o.lines (repeat_of count) all refl
+stated_dated v n break_line o has all = all_push (is_line_of v) o.lines break_out all refl
+stated_dated v n (stop_line word) o has all = all_push (is_line_of v) o.lines (stop_with word) all refl
 
 in_script_dated : (v : ℕ) (r : Option ℕ) (xs : List Declaration) (n : ℕ) (l : StatementLine) (p : Context) → nat_lt v (statement_since l) ≡ false → IsPlaceOf v r xs p
     → IsPlaceOf v r xs (of_script p (λ o. in_script (with_statement_line n l o)) p)
