@@ -1,6 +1,6 @@
 -- Agrees with docs/FORMATS.md, 'Reading a trace'.
 -- What the words of an entry's line say: INDEX NAME CDB PARAMS STATUS SENSE BYTES.
-use Rattle.std.specs.Prelude.{ℕ, ◌-◌, ◌==◌, ◌&&◌, nat_lt, nat_le, if◌then◌else◌, List, [], ◌∷◌, length, slice_index_or, Option, Some, None, option_map, codes, bytes_eq, decimal}
+use Rattle.std.specs.Prelude.{ℕ, ◌==◌, ◌&&◌, nat_lt, nat_le, if◌then◌else◌, List, [], ◌∷◌, length, slice_index_or, Option, Some, None, option_map, codes, bytes_eq, decimal}
 use Rattle.std.specs.List.{find}
 use Rattle.pr_cdb.specs.declared.codes.TheConstants.{MOST_CDB_LENGTH, PARAMETER_LIST_LENGTH, FIXED_SENSE_LENGTH}
 use Rattle.pr_cdb.specs.declared.reply.Reply.{Reply}

@@ -1,6 +1,6 @@
 use Rattle.pr_trace.proofs.Common.{[], ◌∷◌, length, sym, ap, ◌∙◌, inl, inr, arith, length-append, pairs_in}
-use Rattle.std.proofs.lemmas.Bool.{eqb-true}
-use Rattle.pr_trace.proofs.lemmas.EntryWords.PairBytes.{bytes_none, next_pair, no_bytes, no_pair_there, onto_none, some_left}
+use Rattle.std.proofs.lemmas.Bool.{eqb-false, eqb-true}
+use Rattle.pr_trace.proofs.lemmas.EntryWords.PairBytes.{bytes_none, next_pair, no_bytes, no_pair_there, onto_none}
 use Rattle.pr_trace.proofs.lemmas.EntryWords.PairBytes.{onto}
 use Rattle.pr_trace.proofs.entry_reading.bytes_into.Goals as goal
 use Rattle.pr_trace.proofs.entry_reading.bytes_into.Goals.{then-is_empty-via-then-is_empty, then-is_empty-via-else-is_empty+then-pairs-most, then-is_empty-via-else-is_empty+else-pairs-most+then-not-is_empty}
@@ -9,7 +9,7 @@ pub returns-then-is_empty : goal.returns-then-is_empty
 returns-then-is_empty g c = no_bytes c.args.most c.args.word.now (sym c.is_dash.ensures ∙ c.if-is_dash.false) (λ bs half. elim c.then-is_empty.branch [
   | then-is_empty-via-then-is_empty w ↦ inl (omega (arith, half, c.as_chunks.ensures.front_len, eqb-true _ 0 (sym c.is_empty.ensures ∙ w.if-is_empty.true)))
   | then-is_empty-via-else-is_empty+then-pairs-most w ↦ inr (omega (arith, half, c.as_chunks.ensures.front_len, w.if-pairs-most.true))
-  | then-is_empty-via-else-is_empty+else-pairs-most+then-not-is_empty w ↦ inl (omega (arith, half, c.as_chunks.ensures.back_len, some_left _ (sym w.if-not-is_empty.ensures)))
+  | then-is_empty-via-else-is_empty+else-pairs-most+then-not-is_empty w ↦ inl (omega (arith, half, c.as_chunks.ensures.back_len, eqb-false _ 0 (sym w.if-not-is_empty.ensures)))
 ])
 
 pub loop-pair-init : goal.loop-pair-init

@@ -1,5 +1,5 @@
 -- How many bytes are taken in several steps.
-use Rattle.pr_trace.proofs.Common.{◌≡◌, ℕ, ◌+◌, ◌≤◌, List, [], ◌++◌, length, drop, Option, ap, subst, arith, length-append, length-drop, bytes_of_lines, most_items, bytes_held, Takes, MOST_LATER_LINES}
+use Rattle.pr_trace.proofs.Common.{◌≡◌, ℕ, ◌+◌, ◌≤◌, List, ◌++◌, length, drop, Option, ap, subst, arith, length-append, length-drop, bytes_of_lines, most_items, bytes_held, Takes, MOST_LATER_LINES}
 use Rattle.std.proofs.KnownBytes.{Consumes-trans}
 use Rattle.pr_trace.specs.BytesTaken.{LosesUpTo, most_of_trace}
 use Rattle.pr_trace.specs.declared.ahead.TheConstants.{MOST_HELD}

@@ -1,5 +1,5 @@
 -- Bytes that pairs of digits write.
-use Rattle.pr_trace.proofs.Common.{◌≡◌, ℕ, zero, suc, ◌+◌, ◌*◌, ◌/◌, ◌<◌, ◌≤◌, true, false, cond, ◌&&◌, List, [], ◌∷◌, ◌++◌, length, get_or, take, drop, nat_lt, nat_le, ◌==◌, Some, None, codes, Option, bytes_eq, sym, refl, ap, ◌∙◌, inl, inr, append_assoc, arith, length-drop, nat_tests, pairs_in}
+use Rattle.pr_trace.proofs.Common.{◌≡◌, ℕ, zero, suc, ◌+◌, ◌*◌, ◌/◌, ◌<◌, ◌≤◌, true, false, cond, ◌&&◌, List, [], ◌∷◌, ◌++◌, length, get_or, take, drop, nat_lt, nat_le, Some, None, codes, Option, bytes_eq, sym, refl, ap, ◌∙◌, inl, inr, append_assoc, arith, length-drop, nat_tests, pairs_in}
 use Rattle.std.specs.Simd.{first_chunks}
 use Rattle.std.proofs.Common.{◌⊎◌, drop-drop, option_map}
 use Rattle.std.proofs.lemmas.Option.{same_Some}
@@ -107,9 +107,6 @@ pairs_length (h ∷ l ∷ ds) bs is = of_byte (pairs_length ds) (byte_of h l) re
     of_byte rest (Some b) e (Some others) f =
         let whole : b ∷ others ≡ bs = same_Some _ _ (sym (first_pair (h ∷ l ∷ ds) (omega arith) ∙ rw (e, f) refl) ∙ is) in
         omega (arith, ap length whole, rest others f)
-
-pub some_left : (n : ℕ) → (n == 0) ≡ false → 1 ≤ n
-some_left n h = grind (arith, nat_tests)
 
 -- a word of which no number of bytes that may be is the half
 pub no_bytes : (most : ℕ) (word : List ℕ) → bytes_eq word (codes "-") ≡ false → ((bs : List ℕ) → length word ≡ 2 * length bs → (length bs ≡ 0) ⊎ (most < length bs)) → bytes_in most word ≡ None

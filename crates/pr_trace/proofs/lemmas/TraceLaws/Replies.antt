@@ -1,5 +1,5 @@
 -- What a command is answered can be written in a trace: bytes that are not too many, and a sense whose fields are in range.
-use Rattle.pr_trace.proofs.Common.{◌≡◌, ℕ, zero, suc, ◌+◌, ◌*◌, ◌%◌, ◌<◌, ◌≤◌, Bool, true, false, ◌&&◌, List, [], ◌∷◌, ◌++◌, length, nat_lt, ◌==◌, slice_index, Some, None, Ok, Err, Option, Result, if◌then◌else◌, sym, refl, subst, arith, not, option_map_or, PARAMETER_LIST_LENGTH, Command, Reply, Status, AreBytes, State, most_declared, has_status, HasSense}
+use Rattle.pr_trace.proofs.Common.{◌≡◌, ℕ, zero, suc, ◌*◌, ◌%◌, ◌<◌, ◌≤◌, Bool, true, false, ◌&&◌, List, [], ◌∷◌, ◌++◌, length, nat_lt, ◌==◌, slice_index, Some, None, Ok, Err, Option, Result, if◌then◌else◌, sym, refl, subst, arith, not, option_map_or, PARAMETER_LIST_LENGTH, Command, Reply, Status, AreBytes, State, most_declared, has_status, HasSense}
 use Rattle.std.specs.Prelude.{◌||◌, take, IsTrue, is_none}
 use Rattle.std.specs.FinMap as finmap
 use Rattle.std.specs.Int.{w32, w64, to_be_bytes}

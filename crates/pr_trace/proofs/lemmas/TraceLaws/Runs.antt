@@ -1,5 +1,5 @@
 -- The trace of a run is read back.
-use Rattle.pr_trace.proofs.Common.{◌≡◌, ℕ, zero, suc, ◌+◌, ◌<◌, ◌≤◌, true, false, List, [], ◌∷◌, ◌++◌, map, length, drop, codes, nat_le, ◌==◌, Some, None, Ok, Err, Option, sym, refl, ap, ◌∙◌, subst, inl, inr, arith, nat_tests, Item, names_in, MOST_CDB_LENGTH, MOST_NEXUSES, PARAMETER_LIST_LENGTH, not, option_map_or, and_parts, Command, Reply, AreBytes, is_name, Fits, most_declared, Scenario, Nexus, IsItem, trace_of}
+use Rattle.pr_trace.proofs.Common.{◌≡◌, ℕ, zero, suc, ◌<◌, ◌≤◌, true, false, List, [], ◌∷◌, ◌++◌, map, length, drop, codes, nat_le, ◌==◌, Some, None, Ok, Err, Option, sym, refl, ap, ◌∙◌, subst, inl, inr, arith, nat_tests, Item, names_in, MOST_CDB_LENGTH, MOST_NEXUSES, PARAMETER_LIST_LENGTH, not, option_map_or, and_parts, Command, Reply, AreBytes, is_name, Fits, most_declared, Scenario, Nexus, IsItem, trace_of}
 use Rattle.std.specs.Prelude.{◌^◌, ◌⊎◌, ◌≢◌, ◌&&◌, Bool, IsTrue, is_some, slice_set}
 use Rattle.std.specs.List.{All, slice_get}
 use Rattle.std.proofs.lemmas.Bool.{false≢true, or_cases}

@@ -1,12 +1,11 @@
 -- A trace goes out one line after another.
-use Rattle.pr_trace.proofs.Common.{◌≡◌, ℕ, suc, ◌+◌, ◌<◌, ◌≤◌, List, [], ◌∷◌, ◌++◌, map, length, get_or, drop, slice_index, codes, Option, Result, sym, refl, ap, ◌∙◌, subst, append_assoc, append-nil, Appends, scenario_of, Item, Parts, ending_of, joined_by_spaces, line, names_in, names_of, name_of, item_lines, held_word, ending_lines, first_line, unit_line, Wrote, FallsShort, Puts, State}
+use Rattle.pr_trace.proofs.Common.{◌≡◌, ℕ, suc, ◌+◌, ◌<◌, ◌≤◌, List, [], ◌∷◌, ◌++◌, map, length, get_or, drop, slice_index, codes, Option, Result, sym, refl, ap, ◌∙◌, subst, append_assoc, append-nil, scenario_of, Item, Parts, ending_of, joined_by_spaces, line, names_in, names_of, name_of, item_lines, held_word, ending_lines, first_line, unit_line, Wrote, FallsShort, Puts, State}
 use Rattle.std.proofs.Common.{add-one, drop_of_length-le, drop-cons}
 use Rattle.pr_output.specs.PrintedLines.{generation_word, registration_word}
 use Rattle.pr_trace.specs.TraceText.{item_line, ending_line, registration_words, trace_body, trace_text}
 use Rattle.pr_roles.specs.declared.parts.Nexus.{Nexus as NexusPart}
 use Rattle.pr_registry.specs.Registrations.{key_of}
 use Rattle.pr_audit.specs.declared.end.End.{End}
-use Rattle.pr_output.proofs.lemmas.Written.Fronts.{wrote_front, wrote_more}
 use Rattle.pr_roles.proofs.lemmas.Fitting.DistinctLists.{names_of_parts}
 use Rattle.pr_trace.proofs.lemmas.FrontsWritten.HeldLines.{held_first, held_front, held_more}
 
@@ -16,31 +15,19 @@ drop_here xs i x h e = rw add-one (drop-cons xs i x h ∙ ap (λ y. y ∷ drop (
 
 -- Entries.
 
-item_lines_from : (names : List (List ℕ)) (es : List Item) (i : ℕ) (e : Item) → i < length es → e ≡ get_or es i e
+pub item_lines_from : (names : List (List ℕ)) (es : List Item) (i : ℕ) (e : Item) → i < length es → e ≡ get_or es i e
     → item_lines i names (drop i es) ≡ item_line (i + 1) names e ++ item_lines (i + 1) names (drop (i + 1) es)
 item_lines_from names es i e h is = rw (drop_here es i e h is) refl
 
-item_lines_end : (names : List (List ℕ)) (es : List Item) (i : ℕ) → length es ≤ i → item_lines i names (drop i es) ≡ []
+pub item_lines_end : (names : List (List ℕ)) (es : List Item) (i : ℕ) → length es ≤ i → item_lines i names (drop i es) ≡ []
 item_lines_end names es i h = rw (drop_of_length-le es {i = i} h) refl
-
-pub entries_front : (old mid new : Option (List ℕ)) (text held : List ℕ) (names : List (List ℕ)) (es : List Item) (i : ℕ) (e : Item) → i < length es → e ≡ get_or es i e
-    → Wrote old mid text (held ++ item_lines i names (drop i es)) → FallsShort mid new (held ++ item_line (i + 1) names e) → FallsShort old new text
-entries_front old mid new text held names es i e h is w f = held_front _ _ _ _ held _ _ (rw (item_lines_from names es i e h is) at w) f
-
-pub entries_more : (old mid new : Option (List ℕ)) (text held left : List ℕ) (names : List (List ℕ)) (es : List Item) (i : ℕ) (e : Item) → i < length es → e ≡ get_or es i e
-    → Wrote old mid text (held ++ item_lines i names (drop i es)) → Wrote mid new (held ++ item_line (i + 1) names e) left → Wrote old new text (left ++ item_lines (i + 1) names (drop (i + 1) es))
-entries_more old mid new text held left names es i e h is w v = held_more _ _ _ _ held _ _ _ (rw (item_lines_from names es i e h is) at w) v
-
-pub entries_end : (old new : Option (List ℕ)) (text held : List ℕ) (names : List (List ℕ)) (es : List Item) (i : ℕ) → length es ≤ i
-    → Wrote old new text (held ++ item_lines i names (drop i es)) → Wrote old new text held
-entries_end old new text held names es i h w = rw append-nil at (rw (item_lines_end names es i h) at w)
 
 -- Registrations.
 
 abbrev pub registrations : State → ℕ → List NexusPart → List ℕ
 registrations unit host nexuses = joined_by_spaces (registration_words unit host (names_of nexuses))
 
-registrations_from : (unit : State) (nexuses : List NexusPart) (i : ℕ) (n : NexusPart) → i < length nexuses → n ≡ get_or nexuses i n
+pub registrations_from : (unit : State) (nexuses : List NexusPart) (i : ℕ) (n : NexusPart) → i < length nexuses → n ≡ get_or nexuses i n
     → registrations unit i (drop i nexuses) ≡ (32 ∷ registration_word n.name.bytes (key_of unit i)) ++ registrations unit (i + 1) (drop (i + 1) nexuses)
 unfolding joined_by_spaces
 registrations_from unit nexuses i n h is = rw (drop_here nexuses i n h is) refl
@@ -48,14 +35,6 @@ registrations_from unit nexuses i n h is = rw (drop_here nexuses i n h is) refl
 pub registrations_end : (unit : State) (nexuses : List NexusPart) (i : ℕ) → length nexuses ≤ i → registrations unit i (drop i nexuses) ≡ []
 unfolding joined_by_spaces
 registrations_end unit nexuses i h = rw (drop_of_length-le nexuses {i = i} h) refl
-
-pub registrations_front : (old mid new : Option (List ℕ)) (text : List ℕ) (unit : State) (nexuses : List NexusPart) (i : ℕ) (n : NexusPart) → i < length nexuses → n ≡ get_or nexuses i n
-    → Wrote old mid text (registrations unit i (drop i nexuses)) → FallsShort mid new (32 ∷ registration_word n.name.bytes (key_of unit i)) → FallsShort old new text
-registrations_front old mid new text unit nexuses i n h is w f = wrote_front _ _ _ _ _ _ (rw (registrations_from unit nexuses i n h is) at w) f
-
-pub registrations_more : (old mid new : Option (List ℕ)) (text : List ℕ) (unit : State) (nexuses : List NexusPart) (i : ℕ) (n : NexusPart) → i < length nexuses → n ≡ get_or nexuses i n
-    → Wrote old mid text (registrations unit i (drop i nexuses)) → Appends mid new (32 ∷ registration_word n.name.bytes (key_of unit i)) → Wrote old new text (registrations unit (i + 1) (drop (i + 1) nexuses))
-registrations_more old mid new text unit nexuses i n h is w p = wrote_more _ _ _ _ _ _ (rw (registrations_from unit nexuses i n h is) at w) p
 
 regrouped : (a b c d : List ℕ) → (a ++ (b ++ c)) ++ d ≡ (a ++ (b ++ [])) ++ (c ++ d)
 regrouped a b c d = simp (append_assoc, append-nil)
@@ -70,24 +49,12 @@ unit_pieces names unit =
 
 -- Ends.
 
-ending_lines_from : (names : List (List ℕ)) (counts : List ℕ) (es : List End) (i : ℕ) (e : End) → i < length es → e ≡ get_or es i e
+pub ending_lines_from : (names : List (List ℕ)) (counts : List ℕ) (es : List End) (i : ℕ) (e : End) → i < length es → e ≡ get_or es i e
     → ending_lines i names counts (map ending_of (drop i es)) ≡ ending_line (name_of names i) (ending_of e) (slice_index counts i) ++ ending_lines (i + 1) names counts (map ending_of (drop (i + 1) es))
 ending_lines_from names counts es i e h is = rw (drop_here es i e h is) refl
 
-ending_lines_end : (names : List (List ℕ)) (counts : List ℕ) (es : List End) (i : ℕ) → length es ≤ i → ending_lines i names counts (map ending_of (drop i es)) ≡ []
+pub ending_lines_end : (names : List (List ℕ)) (counts : List ℕ) (es : List End) (i : ℕ) → length es ≤ i → ending_lines i names counts (map ending_of (drop i es)) ≡ []
 ending_lines_end names counts es i h = rw (drop_of_length-le es {i = i} h) refl
-
-pub ends_front : (old mid new : Option (List ℕ)) (text held : List ℕ) (names : List (List ℕ)) (counts : List ℕ) (es : List End) (i : ℕ) (e : End) → i < length es → e ≡ get_or es i e
-    → Wrote old mid text (held ++ ending_lines i names counts (map ending_of (drop i es))) → FallsShort mid new (held ++ ending_line (name_of names i) (ending_of e) (slice_index counts i)) → FallsShort old new text
-ends_front old mid new text held names counts es i e h is w f = held_front _ _ _ _ held _ _ (rw (ending_lines_from names counts es i e h is) at w) f
-
-pub ends_more : (old mid new : Option (List ℕ)) (text held left : List ℕ) (names : List (List ℕ)) (counts : List ℕ) (es : List End) (i : ℕ) (e : End) → i < length es → e ≡ get_or es i e
-    → Wrote old mid text (held ++ ending_lines i names counts (map ending_of (drop i es))) → Wrote mid new (held ++ ending_line (name_of names i) (ending_of e) (slice_index counts i)) left → Wrote old new text (left ++ ending_lines (i + 1) names counts (map ending_of (drop (i + 1) es)))
-ends_more old mid new text held left names counts es i e h is w v = held_more _ _ _ _ held _ _ _ (rw (ending_lines_from names counts es i e h is) at w) v
-
-pub ends_end : (old new : Option (List ℕ)) (text held : List ℕ) (names : List (List ℕ)) (counts : List ℕ) (es : List End) (i : ℕ) → length es ≤ i
-    → Wrote old new text (held ++ ending_lines i names counts (map ending_of (drop i es))) → Wrote old new text held
-ends_end old new text held names counts es i h w = rw append-nil at (rw (ending_lines_end names counts es i h) at w)
 
 -- The whole, in four parts.
 
