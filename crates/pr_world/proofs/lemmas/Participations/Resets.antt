@@ -4,7 +4,8 @@ use Rattle.pr_unit.specs.UnitStates.{reset}
 use Rattle.pr_roles.specs.declared.step.Step.TheVariants as step
 use Rattle.pr_roles.specs.Worlds.{after_reset}
 use Rattle.pr_roles.specs.Schedules.{ResetTurn}
-use Rattle.pr_world.proofs.lemmas.Replays.Runs.{reached_by, reached_still}
+use Rattle.pr_audit.proofs.lemmas.Auditing.Histories.{run_then}
+use Rattle.pr_world.proofs.lemmas.Replays.Runs.{reached_by}
 
 -- the schedule after a reset
 abbrev pub with_reset : Schedule → Schedule
@@ -21,7 +22,8 @@ schedule_reset u v xs es fs unit added i = schedule_by (unit i) xs (added i)
 
 pub reached_reset : (s : Scenario) (x y : Schedule) → may_reset s x.world.history ≡ true → y ≡ with_reset x → (steps : List Step) → IsReached s steps x → IsReached s (steps ++ step.Reset ∷ []) y
 reached_reset s x y may is steps reached =
-    reached_by s steps x y step.Reset UnitReset (reset_made s x y may is) (record { room = may; world = ap (λ z. z.world) is }) reached
+    reached_by s steps x y step.Reset (reset_made s x y may is) reached (reached.events ++ UnitReset ∷ [])
+    (run_then s _ x.world y.world reached.events UnitReset reached.run (record { room = may; world = ap (λ z. z.world) is }))
 
 pub reached_unreset : (s : Scenario) (x : Schedule) → may_reset s x.world.history ≡ false → (steps : List Step) → IsReached s steps x → IsReached s (steps ++ step.Reset ∷ []) x
-reached_unreset s x over steps reached = reached_still s steps x x step.Reset (reset_passed s x x over (λ i. x)) (λ i. x.world) reached
+reached_unreset s x over steps reached = reached_by s steps x x step.Reset (reset_passed s x x over (λ i. x)) reached reached.events reached.run

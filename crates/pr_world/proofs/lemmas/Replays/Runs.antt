@@ -1,5 +1,5 @@
 -- Turns and resets one after another, and what they come to.
-use Rattle.pr_world.proofs.Common.{◌≡◌, ℕ, ◌+◌, ◌<◌, ◌≤◌, List, [], ◌∷◌, ◌++◌, map, length, get_or, take, Some, None, Ok, vec_len, vec_capacity, Option, sym, refl, ap, ◌∙◌, subst, arith, range_with_len, get_or-map, length-map, Scenario, Schedule, Turn, Event, Happens, world_from, commands_by, Entry, How, Item, Step, IsReached, ending_of, ending, Course, Participant, participation_of, HappensBy, StandsFor, schedule_of}
+use Rattle.pr_world.proofs.Common.{◌≡◌, ℕ, ◌+◌, ◌<◌, ◌≤◌, List, [], ◌∷◌, ◌++◌, map, length, get_or, take, Some, None, Ok, vec_len, vec_capacity, Option, sym, refl, ap, ◌∙◌, subst, arith, range_with_len, length-map, Scenario, Schedule, Turn, Event, world_from, commands_by, Entry, How, Item, Step, IsReached, ending_of, ending, Course, Participant, participation_of, HappensBy, StandsFor, schedule_of}
 use Rattle.std.proofs.Common.{Result, Err, IfOk}
 use Rattle.std.specs.declared.alloc.AllocError.{AllocError}
 use Rattle.std.proofs.lemmas.List.{take_all, take_more}
@@ -19,33 +19,24 @@ pub scheduled_then : (s : Scenario) (x y z : Schedule) (steps : List Step) (next
 scheduled_then s x y z [] next run advances = (z, subst (λ w. Advances s w next z) run advances, refl)
 scheduled_then s x y z (first ∷ steps) next run advances = (run.0, run.1, scheduled_then s run.0 y z steps next run.2 advances)
 
--- a step that changes nothing of the world
-pub reached_still : (s : Scenario) (steps : List Step) (x y : Schedule) (next : Step) → Advances s x next y → y.world ≡ x.world → IsReached s steps x → IsReached s (steps ++ next ∷ []) y
-reached_still s steps x y next advances same reached = record {
-  start = reached.start;
-  first = reached.first;
-  allowed = reached.allowed;
-  scheduled = scheduled_then s _ _ _ steps next reached.scheduled advances;
-  events = reached.events;
-  run = subst (λ w. Run s (world_from s reached.start) reached.events w) (sym same) reached.run;
-}
-
--- a step that is one event
-pub reached_by : (s : Scenario) (steps : List Step) (x y : Schedule) (next : Step) (event : Event) → Advances s x next y → Happens s x.world event y.world → IsReached s steps x
+-- a step, and the events so far with it
+pub reached_by : (s : Scenario) (steps : List Step) (x y : Schedule) (next : Step) → Advances s x next y → (reached : IsReached s steps x) (events : List Event) → Run s (world_from s reached.start) events y.world
     → IsReached s (steps ++ next ∷ []) y
-reached_by s steps x y next event advances happens reached = record {
+reached_by s steps x y next advances reached events run = record {
   start = reached.start;
   first = reached.first;
   allowed = reached.allowed;
   scheduled = scheduled_then s _ _ _ steps next reached.scheduled advances;
-  events = reached.events ++ event ∷ [];
-  run = run_then s _ _ _ reached.events event reached.run happens;
+  events = events;
+  run = run;
 }
 
+-- a turn is one event, or changes nothing of the world
 pub reached_more : (s : Scenario) (steps : List Step) (x y : Schedule) (h : ℕ) (wanted : How) (o : Option Entry) → Turn s x h wanted y → HappensBy s h o x.world y.world → IsReached s steps x
     → IsReached s (steps ++ step.Of h wanted ∷ []) y
-reached_more s steps x y h wanted None turn same reached = reached_still s steps x y (step.Of h wanted) turn same reached
-reached_more s steps x y h wanted (Some e) turn one reached = reached_by s steps x y (step.Of h wanted) one.event turn one.happens reached
+reached_more s steps x y h wanted None turn same reached = reached_by s steps x y (step.Of h wanted) turn reached reached.events (subst (λ w. Run s (world_from s reached.start) reached.events w) (sym same) reached.run)
+reached_more s steps x y h wanted (Some e) turn one reached =
+    reached_by s steps x y (step.Of h wanted) turn reached (reached.events ++ one.event ∷ []) (run_then s _ _ _ reached.events one.event reached.run one.happens)
 
 -- the steps before step i have led here, with room for one item more at each step
 pub record IsRunning (s : Scenario) (steps : List Step) (i : ℕ) (c : Course) : Type 0 where
@@ -82,14 +73,6 @@ replayed s steps i c (Ok r) running done outcome =
 replayed s steps i c (Err e) running done outcome = outcome
 
 -- ---- turns that the unit answers
-
-pub plain_more : (s : Scenario) (hosts : List ℕ) (i : ℕ) (c d : Course) → i < length hosts → IsRunning s (plain_steps hosts) i c
-    → ((before : List Step) → IsReached s before (schedule_of c) → IsReached s (before ++ step.Of (get_or hosts i 0) how.Plain ∷ []) (schedule_of d))
-    → StandsFor s d.unit (map participation_of d.participants.items)
-    → vec_capacity d.history ≡ vec_capacity c.history → vec_len d.history ≤ vec_len c.history + 1 → IsRunning s (plain_steps hosts) (i + 1) d
-plain_more s hosts i c d there running more stands room few =
-    running_more s (plain_steps hosts) i (step.Of 0 how.Plain) (step.Of (get_or hosts i 0) how.Plain) c d (rw (length-map hosts (λ host. step.Of host how.Plain)) there) running
-    (sym (get_or-map (λ host. step.Of host how.Plain) hosts i 0)) more stands room few
 
 pub plain_replayed : (s : Scenario) (hosts : List ℕ) (i : ℕ) (c : Course) (r : Result Replayed AllocError) → IsRunning s (plain_steps hosts) i c → length hosts ≤ i
     → IfOk r (IsEndOf (schedule_of c)) → IfOk r (IsReplayed s (plain_steps hosts))

@@ -8,7 +8,7 @@ use Rattle.pr_roles.specs.declared.how.How.TheVariants as how
 use Rattle.pr_roles.specs.declared.step.Step.TheVariants as step
 use Rattle.pr_roles.specs.Worlds.{HostSends, after, after_reset, resets_in}
 use Rattle.pr_roles.specs.Safety.{KeepsBudgetBy}
-use Rattle.pr_roles.specs.Schedules.{Sends, Advances, ScheduledRun, plan_of, schedule_from}
+use Rattle.pr_roles.specs.Schedules.{Advances, ScheduledRun, plan_of, schedule_from}
 use Rattle.pr_roles.specs.Schedules as turn
 use Rattle.pr_roles.proofs.lemmas.Schedules.NextCommands.{next_is}
 use Rattle.pr_roles.proofs.lemmas.Worlds.Resets.{run_within}
@@ -70,9 +70,6 @@ plan_own plans h left = at (nat_lt h (length plans)) refl
 abbrev pub Grows : List Item → ℕ → List Item → Type 0
 Grows es h fs = (fs ≡ es) ⊎ ((e : Entry) × (e.host ≡ h) × (fs ≡ es ++ Sent e ∷ []))
 
-sends_grows : (so : How) (w v : World) (h at : ℕ) (c : Command) → Sends w h at c so v → Grows w.history h v.history
-sends_grows so w v h at c sends = inr (entry_of h (spelling c) sends.reply, refl, ap (λ x. x.history) sends.world)
-
 -- of another as many were sent, and of h at most one more
 grown_other : (es fs : List Item) (h g : ℕ) → g ≢ h → Grows es h fs → commands_by fs g ≡ commands_by es g
 grown_other es fs h g other (inl same) = ap (λ xs. commands_by xs g) same
@@ -121,7 +118,7 @@ next_kept s x y h line c left comes grows plans kept =
         omega (arith, few, mine, grown_own x.world.history y.world.history h grows, next_shortens s x h line c left commands comes is)
 
 turn_kept : (so : How) (s : Scenario) (x y : Schedule) (h : ℕ) → TurnAs s x h so y → KeepsPlans s x → KeepsPlans s y
-turn_kept so s x y h (turn.sends line c left comes free sent plans) kept = next_kept s x y h line c left comes (sends_grows so x.world y.world h line c sent) plans kept
+turn_kept so s x y h (turn.sends line c left comes free sent plans) kept = next_kept s x y h line c left comes (inr (entry_of h (spelling c) sent.reply, refl, ap (λ w. w.history) sent.world)) plans kept
 turn_kept so s x y h (turn.passes line c left comes held after) kept = next_kept s x y h line c left comes (inl (ap (λ z. z.world.history) after)) (ap (λ z. z.plans) after) kept
 turn_kept so s x y h (turn.rests none same) kept = subst (KeepsPlans s) (sym same) kept
 
