@@ -9,11 +9,11 @@ unfolding printed_word
 returns-in_err-put_spaced g c =
     let row = row_of c.args.action in
     puts_as _ _ _ _ _ (spaced_both (codes "--out" ∷ row.option ∷ []) (flat_map (field_words c.args.kind c.args.rk c.args.sark) row.fields))
-    (puts_err _ _ _ _ (front_first _ _ _ _ (rw c.row.ensures.option at c.in_err-put_spaced.ensures)) c.from_residual.ensures.0)
+    (puts_err _ _ _ _ (front_first _ _ _ _ (rw c.row-row.ensures.option at c.in_err-put_spaced.ensures)) c.from_residual.ensures.0)
 
 pub returns : goal.returns
 unfolding printed_word
 returns g c =
     let row = row_of c.args.action in
     puts_as _ _ _ _ _ (spaced_both (codes "--out" ∷ row.option ∷ []) (flat_map (field_words c.args.kind c.args.rk c.args.sark) row.fields))
-    (puts_last _ _ _ _ _ _ (rw c.row.ensures.option at c.in_ok-put_spaced.ensures) (rw c.row.ensures.fields at c.put_fields.ensures))
+    (puts_last _ _ _ _ _ _ (rw c.row-row.ensures.option at c.in_ok-put_spaced.ensures) (rw c.row-row.ensures.fields at c.put_fields.ensures))
