@@ -1,11 +1,9 @@
 -- What is added to possibilities, step by step.
-use Rattle.pr_interference.proofs.Common.{◌≡◌, ℕ, ◌+◌, ◌<◌, ◌≢◌, ◌⊎◌, List, length, slice_index_or, sym, ◌∙◌, subst, inl, inr, arith, get_or_default, BitSet, UnitState, view_in, Scope, Item, IsPossible, Possibilities, IsAt, Changes, Place, Branch, Transition, Adds, adds_both, IsJoined, Any, IsLedBy, IsLeftBy}
-use Rattle.std.proofs.Common.{⊎_elim}
-use Rattle.std.proofs.lemmas.Bool.{cases_eq}
+use Rattle.pr_interference.proofs.Common.{◌≡◌, ℕ, ◌+◌, ◌<◌, ◌⊎◌, List, length, slice_index_or, sym, ◌∙◌, subst, inl, inr, BitSet, UnitState, view_in, Scope, Item, IsPossible, Possibilities, IsAt, Changes, Place, Branch, Transition, Adds, adds_both, IsJoined, Any, IsLedBy, IsLeftBy}
 use Rattle.pr_regions.specs.declared.region.Region.{Region}
 use Rattle.pr_regions.specs.declared.region.Ending.TheVariants as ending
 use Rattle.pr_interference.specs.inside.Interfering.{IsAfter, IsChanged}
-use Rattle.pr_regions.proofs.lemmas.Keeping.Additions.{grown, joined_old, joined_other, joined_either}
+use Rattle.pr_regions.proofs.lemmas.Keeping.Additions.{AnyBelow, any_or_last, grown, joined_old, joined_other, joined_either}
 
 -- the same, said otherwise
 pub adds_so : (s : Scope) (p q : Possibilities) (L M : UnitState → UnitState → Type 0) (V W : Item → Type 0) → Adds s p q L V
@@ -35,18 +33,6 @@ adds_after s view old after new place senders region change is joined = record {
 
 -- ---- one after another
 
--- what is of one of the first numbers is of one before the last, or of the last
-pub below_or_last : (P : ℕ → Type 0) (n : ℕ) → (k : ℕ) × (k < n + 1) × P k → ((k : ℕ) × (k < n) × P k) ⊎ P n
-below_or_last P n found = at (cases_eq found.0 n)
-  where
-    at : (found.0 ≡ n) ⊎ (found.0 ≢ n) → ((k : ℕ) × (k < n) × P k) ⊎ P n
-    at (inl same) = inr (subst P same found.2)
-    at (inr differs) = inl (found.0, (let below = found.1 in omega arith), found.2)
-
--- one of the first elements is so: at the length of the list that is Any
-abbrev pub AnyBelow : {X : Type 0} → ℕ → (X → Type 0) → List X → Type 0
-AnyBelow {X} n P xs = (k : ℕ) × (x : X) × (k < n) × (slice_index_or xs k x ≡ x) × P x
-
 -- one element more
 pub adds_element : {X : Type 0} (s : Scope) (p q r : Possibilities) (n : ℕ) (xs : List X) (x : X) (leads : X → UnitState → UnitState → Type 0) (leaves : X → Item → Type 0)
     → n < length xs → slice_index_or xs n x ≡ x
@@ -55,9 +41,7 @@ pub adds_element : {X : Type 0} (s : Scope) (p q r : Possibilities) (n : ℕ) (x
 adds_element {X} s p q r n xs x leads leaves small there before now =
     adds_both s p q r (λ u w. AnyBelow n (λ y. leads y u w) xs) (leads x) (λ u w. AnyBelow (n + 1) (λ y. leads y u w) xs)
     (λ i. Any (λ y. leaves y i) xs) (leaves x) (λ i. Any (λ y. leaves y i) xs) before now
-    (λ u w any. ⊎_elim (λ earlier. inl (earlier.0, earlier.2.0, earlier.1, earlier.2.1, earlier.2.2))
-    (λ last. inr (subst (λ y. leads y u w) (sym last.1 ∙ get_or_default xs n last.0 x small ∙ there) last.2))
-    (below_or_last (λ k. (y : X) × (slice_index_or xs k y ≡ y) × leads y u w) n (any.0, any.2, (any.1, any.3, any.4))))
+    (λ u w. any_or_last (λ y. leads y u w) xs n x small there)
     (λ i any. any) (λ i left. (n, x, small, there, left))
 
 -- ---- a branch

@@ -1,6 +1,7 @@
 use Rattle.pr_interference.proofs.Common.{◌≡◌, true, sym, ◌∙◌, subst, arith, has, ATTENTION_SETS}
 use Rattle.std.proofs.Math.Bool.{or_comm}
-use Rattle.pr_interference.proofs.lemmas.Marks.Images.{union_joined, union_skips, told_from_marks}
+use Rattle.pr_regions.proofs.lemmas.Images.Unions.{union_joined, union_skips}
+use Rattle.pr_interference.proofs.lemmas.Marks.Images.{told_from_marks}
 use Rattle.pr_interference.proofs.marking.attentions_after.Goals.{then-has, else-has}
 use Rattle.pr_interference.proofs.marking.attentions_after.Goals as goal
 

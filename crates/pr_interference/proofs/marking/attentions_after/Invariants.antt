@@ -1,5 +1,5 @@
 use Rattle.pr_interference.proofs.Common.{◌≡◌, ℕ, true, bit_or, first, ATTENTION_SETS}
-use Rattle.pr_interference.proofs.lemmas.Marks.Images.{IsUnion}
+use Rattle.pr_regions.proofs.lemmas.Images.Unions.{IsUnion}
 use Rattle.pr_interference.proofs.marking.attentions_after.Given as goal
 
 abbrev pub invariant-loop-mark : goal.invariant-loop-mark

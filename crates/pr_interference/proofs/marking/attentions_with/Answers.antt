@@ -1,6 +1,7 @@
 use Rattle.pr_interference.proofs.Common.{◌≡◌, ◌<◌, bit_or, sym, refl, ◌∙◌, arith, ATTENTION_SETS}
 use Rattle.std.proofs.lemmas.Nat.{or_lt}
-use Rattle.pr_interference.proofs.lemmas.Marks.Images.{union_with, union_skips, image_of}
+use Rattle.pr_regions.proofs.lemmas.Images.Unions.{union_skips}
+use Rattle.pr_interference.proofs.lemmas.Marks.Images.{union_with, image_of}
 use Rattle.pr_interference.proofs.marking.attentions_with.Goals.{then-has, else-has}
 use Rattle.pr_interference.proofs.marking.attentions_with.Goals as goal
 

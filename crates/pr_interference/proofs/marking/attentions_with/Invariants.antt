@@ -1,5 +1,5 @@
 use Rattle.pr_interference.proofs.Common.{◌≡◌, bit_or}
-use Rattle.pr_interference.proofs.lemmas.Marks.Images.{IsUnion}
+use Rattle.pr_regions.proofs.lemmas.Images.Unions.{IsUnion}
 use Rattle.pr_interference.proofs.marking.attentions_with.Given as goal
 
 abbrev pub invariant-loop-attentions : goal.invariant-loop-attentions

@@ -1,5 +1,6 @@
 use Rattle.pr_interference.proofs.Common.{◌≡◌, sym, ◌∙◌, arith, mark, MOST_REGISTRATIONS}
-use Rattle.pr_interference.proofs.lemmas.Marks.Images.{union_with, union_skips, image_of}
+use Rattle.pr_regions.proofs.lemmas.Images.Unions.{union_skips}
+use Rattle.pr_interference.proofs.lemmas.Marks.Images.{union_with, image_of}
 use Rattle.pr_interference.proofs.marking.marks.Goals.{then-has, else-has}
 use Rattle.pr_interference.proofs.marking.marks.Goals as goal
 

@@ -1,5 +1,5 @@
 use Rattle.pr_interference.proofs.Common.{◌≡◌, mark}
-use Rattle.pr_interference.proofs.lemmas.Marks.Images.{IsUnion}
+use Rattle.pr_regions.proofs.lemmas.Images.Unions.{IsUnion}
 use Rattle.pr_interference.proofs.marking.marks.Given as goal
 
 abbrev pub invariant-loop-registration : goal.invariant-loop-registration

@@ -1,7 +1,7 @@
 use Rattle.pr_interference.proofs.Common.{All, Any, Scope, Adds, IsWatched, IsLedBy, IsLeftBy}
 use Rattle.pr_regions.specs.Gathering.{IsUniform}
 use Rattle.pr_regions.specs.Regions.{IsProper}
-use Rattle.pr_interference.proofs.lemmas.Interfering.Additions.{AnyBelow}
+use Rattle.pr_regions.proofs.lemmas.Keeping.Additions.{AnyBelow}
 use Rattle.pr_interference.proofs.onlooker.Onlooker.add_branches.Given as goal
 
 abbrev pub invariant-loop-branch : goal.invariant-loop-branch

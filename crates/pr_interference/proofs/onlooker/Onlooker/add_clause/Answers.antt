@@ -1,6 +1,6 @@
 use Rattle.pr_interference.proofs.Common.{◌≡◌, ℕ, ◌+◌, ◌<◌, sym, ◌∙◌, subst, arith, UnitState, Possibilities, view_in, count_of_reservations, Adds, adds_both, adds_nothing, PlaceLeads, IsWatched, ClauseLeaves}
 use Rattle.std.proofs.Common.{not-suc-le-zero}
-use Rattle.pr_interference.proofs.lemmas.Interfering.Additions.{below_or_last}
+use Rattle.pr_regions.proofs.lemmas.Keeping.Additions.{below_or_last}
 use Rattle.pr_interference.proofs.lemmas.Interfering.RoleEffects.{none_placed, adds_placed}
 use Rattle.pr_regions.proofs.lemmas.Showing.ShownStates.{is_place}
 use Rattle.pr_interference.proofs.lemmas.Reaching.Bounds.{adds_most}

@@ -1,5 +1,5 @@
 use Rattle.pr_interference.proofs.Common.{Any, view_in, Scope, Adds, IsOnlooking, ClauseLeads, ClauseLeaves}
-use Rattle.pr_interference.proofs.lemmas.Interfering.Additions.{AnyBelow}
+use Rattle.pr_regions.proofs.lemmas.Keeping.Additions.{AnyBelow}
 use Rattle.pr_interference.proofs.onlooker.Onlooker.add_role.Given as goal
 
 abbrev pub invariant-loop-clause : goal.invariant-loop-clause
