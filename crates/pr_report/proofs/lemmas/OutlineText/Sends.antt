@@ -1,5 +1,5 @@
 -- Outlines go out one send after another.
-use Rattle.pr_report.proofs.Common.{◌≡◌, ℕ, ◌+◌, ◌<◌, ◌≤◌, Bool, List, [], ◌∷◌, ◌++◌, map, length, take, drop, Some, codes, Option, Result, sym, refl, ap, ◌∙◌, subst, append-nil, range_with_len, scenario_of, Parts, key_at, view_of, row_of, free_or_key, sends_text, registration_line, send_text, joined_by_spaces, names_in, names_of, name_of, Wrote, FallsShort, Puts}
+use Rattle.pr_report.proofs.Common.{◌≡◌, ℕ, ◌+◌, ◌<◌, ◌≤◌, Bool, List, [], ◌∷◌, ◌++◌, map, length, take, drop, Some, codes, Option, Result, sym, refl, ap, ◌∙◌, subst, append-nil, range_with_len, scenario_of, Parts, key_at, view_of, row_of, free_or_key, sends_text, registration_line, send_text, joined_by_spaces, names_in, names_of, name_of, Wrote, Puts}
 use Rattle.std.specs.Bool.{OnFalse, OnTrue}
 use Rattle.std.specs.Result.{is_ok}
 use Rattle.std.proofs.lemmas.List.{take_at}
@@ -11,7 +11,6 @@ use Rattle.pr_views.specs.Views.{View}
 use Rattle.pr_views.specs.declared.table.Row.{Row as KeptRow}
 use Rattle.pr_views.specs.Tables.{Table}
 use Rattle.pr_report.specs.OutlineText.{free_or_keys, outlines_text}
-use Rattle.pr_trace.proofs.lemmas.FrontsWritten.HeldLines.{held_front, held_more}
 use Rattle.pr_report.proofs.lemmas.WordsWritten.Possibilities.{line_pieces, shown}
 use Rattle.pr_trace.proofs.lemmas.TraceText.Lines.{drop_here, names_of_scenario}
 
@@ -43,23 +42,15 @@ sends_here names host vs rs i v r h is k has =
     ap (λ l. sends_text names (map (line_and_view host) l) (map row_of (drop i rs))) (drop_here vs i v h is)
     ∙ ap (λ l. sends_text names (map (line_and_view host) (v ∷ drop (i + 1) vs)) (map row_of l)) (drop_here rs i r k has)
 
--- each goes to the page behind what is held there
+-- the same, where the rows were read out
 module _ {S : Type 0} {sets : ViewSet S} (names : List (List ℕ)) (host : ℕ) (vs : List (ℕ × ViewOf S sets)) (rs read : List KeptRow) (i : ℕ) (v : ℕ × ViewOf S sets) (r : KeptRow)
     (same : read ≡ rs) (each : length rs ≡ length vs) (there : i < length read) (is : v ≡ get_or vs i v) (has : r ≡ get_or read i r) where
   row_there : i < length rs
   row_there = subst (λ l. i < length l) same there
 
-  here : sends_text names (map (line_and_view host) (drop i vs)) (map row_of (drop i rs))
+  pub next_send : sends_text names (map (line_and_view host) (drop i vs)) (map row_of (drop i rs))
       ≡ send_text names v.0 (line_and_view host v).1 (row_of r) ++ sends_text names (map (line_and_view host) (drop (i + 1) vs)) (map row_of (drop (i + 1) rs))
-  here = sends_here names host vs rs i v r (subst (λ n. i < n) each row_there) is row_there (has ∙ ap (λ l. get_or l i r) same)
-
-  module _ (old mid new : Option (List ℕ)) (text held : List ℕ) (w : Wrote old mid text (held ++ sends_text names (map (line_and_view host) (drop i vs)) (map row_of (drop i rs)))) where
-    pub sends_more : (left : List ℕ) → Wrote mid new (held ++ send_text names v.0 (line_and_view host v).1 (row_of r)) left
-        → Wrote old new text (left ++ sends_text names (map (line_and_view host) (drop (i + 1) vs)) (map row_of (drop (i + 1) rs)))
-    sends_more left p = held_more old mid new text held _ _ left (subst (λ l. Wrote old mid text (held ++ l)) here w) p
-
-    pub sends_front : FallsShort mid new (held ++ send_text names v.0 (line_and_view host v).1 (row_of r)) → FallsShort old new text
-    sends_front p = held_front old mid new text held _ _ (subst (λ l. Wrote old mid text (held ++ l)) here w) p
+  next_send = sends_here names host vs rs i v r (subst (λ n. i < n) each row_there) is row_there (has ∙ ap (λ l. get_or l i r) same)
 
 no_sends : (names : List (List ℕ)) (views : List (ℕ × View)) → sends_text names views [] ≡ []
 no_sends names [] = refl

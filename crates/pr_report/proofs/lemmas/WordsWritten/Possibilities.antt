@@ -1,5 +1,5 @@
 -- Words of what is possible go out one after another, and lines of what is numbered.
-use Rattle.pr_report.proofs.Common.{◌≡◌, ℕ, ◌+◌, ◌-◌, ◌<◌, ◌≤◌, Bool, false, List, [], ◌∷◌, ◌++◌, map, codes, filter, Option, Result, flat_map, sym, refl, ap, ◌∙◌, subst, append-nil, arith, range_with_len, joined_by_spaces, Wrote, FallsShort, Puts, wrote_all, wrote_front, wrote_more}
+use Rattle.pr_report.proofs.Common.{◌≡◌, ℕ, ◌+◌, ◌-◌, ◌<◌, ◌≤◌, Bool, false, List, [], ◌∷◌, ◌++◌, map, codes, filter, Option, Result, sym, refl, ap, ◌∙◌, subst, append-nil, arith, range_with_len, joined_by_spaces, Wrote, Puts, wrote_all}
 use Rattle.std.proofs.lemmas.Grind.{flat_map-append}
 use Rattle.std.proofs.lemmas.List.{map-append}
 use Rattle.std.proofs.lemmas.List.Elements.{filter-append}
@@ -29,19 +29,6 @@ range_here i n h = let more : n - i ≡ suc (n - (i + 1)) = omega arith in ap (�
 pub range_end : (i n : ℕ) → n ≤ i → range_with_len i (n - i) ≡ []
 range_end i n h = let none : n - i ≡ 0 = omega arith in ap (λ k. range_with_len i k) none
 
--- what each element makes of the text goes out
-pub each_more : {X : Type 0} (old mid new : Option (List ℕ)) (text : List ℕ) (f : X → List ℕ) (x : X) (xs rest : List X) → xs ≡ x ∷ rest
-    → Wrote old mid text (flat_map f xs) → Appends mid new (f x) → Wrote old new text (flat_map f rest)
-each_more old mid new text f x xs rest e w p = wrote_more old mid new text (f x) (flat_map f rest) (subst (λ l. Wrote old mid text (flat_map f l)) e w) p
-
-pub each_front : {X : Type 0} (old mid new : Option (List ℕ)) (text : List ℕ) (f : X → List ℕ) (x : X) (xs rest : List X) → xs ≡ x ∷ rest
-    → Wrote old mid text (flat_map f xs) → FallsShort mid new (f x) → FallsShort old new text
-each_front old mid new text f x xs rest e w p = wrote_front old mid new text (f x) (flat_map f rest) (subst (λ l. Wrote old mid text (flat_map f l)) e w) p
-
-pub each_end : {X : Type 0} (old new : Option (List ℕ)) (text : List ℕ) (f : X → List ℕ) (xs : List X) → xs ≡ []
-    → Wrote old new text (flat_map f xs) → Appends old new text
-each_end old new text f xs e w = wrote_all old new text (subst (λ l. Wrote old new text (flat_map f l)) e w)
-
 -- ---- the words of those that pass a test
 
 abbrev pub shown : {X : Type 0} → (X → List ℕ) → (X → Bool) → List X → List ℕ
@@ -61,29 +48,14 @@ pub shown_one : {X : Type 0} (word : X → List ℕ) (p : X → Bool) (x : X) (b
 shown_one word p x b w passes is =
     ap (λ c. joined_by_spaces (if c then w ∷ [] else [])) passes ∙ (ap (λ v. joined_by_spaces (if p x then v ∷ [] else [])) is ∙ sym (one_by word x (p x)))
 
-pub shown_more : {X : Type 0} (old mid new : Option (List ℕ)) (text : List ℕ) (word : X → List ℕ) (p : X → Bool) (x : X) (xs rest : List X) → xs ≡ x ∷ rest
-    → Wrote old mid text (shown word p xs) → Appends mid new (shown word p (x ∷ [])) → Wrote old new text (shown word p rest)
-shown_more old mid new text word p x xs rest e w q =
-    wrote_more old mid new text (shown word p (x ∷ [])) (shown word p rest)
-    (subst (λ l. Wrote old mid text l) (ap (λ l. shown word p l) e ∙ shown_both word p (x ∷ []) rest) w) q
+-- of the first and those behind it
+pub shown_here : {X : Type 0} (word : X → List ℕ) (p : X → Bool) (x : X) (xs rest : List X) → xs ≡ x ∷ rest → shown word p xs ≡ shown word p (x ∷ []) ++ shown word p rest
+shown_here word p x xs rest e = ap (λ l. shown word p l) e ∙ shown_both word p (x ∷ []) rest
 
-pub shown_front : {X : Type 0} (old mid new : Option (List ℕ)) (text : List ℕ) (word : X → List ℕ) (p : X → Bool) (x : X) (xs rest : List X) → xs ≡ x ∷ rest
-    → Wrote old mid text (shown word p xs) → FallsShort mid new (shown word p (x ∷ [])) → FallsShort old new text
-shown_front old mid new text word p x xs rest e w q =
-    wrote_front old mid new text (shown word p (x ∷ [])) (shown word p rest)
-    (subst (λ l. Wrote old mid text l) (ap (λ l. shown word p l) e ∙ shown_both word p (x ∷ []) rest) w) q
-
--- by what the test gives, and the word
-
-pub possible_more : {X : Type 0} (old mid new : Option (List ℕ)) (text : List ℕ) (word : X → List ℕ) (p : X → Bool) (x : X) (xs rest : List X) (b : Bool) (w : List ℕ) → xs ≡ x ∷ rest → b ≡ p x → w ≡ word x
-    → Wrote old mid text (shown word p xs) → Appends mid new (joined_by_spaces (if b then w ∷ [] else [])) → Wrote old new text (shown word p rest)
-possible_more old mid new text word p x xs rest b w e passes is before q =
-    shown_more old mid new text word p x xs rest e before (subst (λ l. Appends mid new l) (shown_one word p x b w passes is) q)
-
-pub possible_front : {X : Type 0} (old mid new : Option (List ℕ)) (text : List ℕ) (word : X → List ℕ) (p : X → Bool) (x : X) (xs rest : List X) (b : Bool) (w : List ℕ) → xs ≡ x ∷ rest → b ≡ p x → w ≡ word x
-    → Wrote old mid text (shown word p xs) → FallsShort mid new (joined_by_spaces (if b then w ∷ [] else [])) → FallsShort old new text
-possible_front old mid new text word p x xs rest b w e passes is before q =
-    shown_front old mid new text word p x xs rest e before (subst (λ l. FallsShort mid new l) (shown_one word p x b w passes is) q)
+-- the same, by what the test gives, and the word
+pub possible_here : {X : Type 0} (word : X → List ℕ) (p : X → Bool) (x : X) (xs rest : List X) (b : Bool) (w : List ℕ) → xs ≡ x ∷ rest → b ≡ p x → w ≡ word x
+    → shown word p xs ≡ joined_by_spaces (if b then w ∷ [] else []) ++ shown word p rest
+possible_here word p x xs rest b w e passes is = shown_here word p x xs rest e ∙ ap (λ t. t ++ shown word p rest) (sym (shown_one word p x b w passes is))
 
 pub shown_end : {X : Type 0} (old new : Option (List ℕ)) (text : List ℕ) (word : X → List ℕ) (p : X → Bool) (xs : List X) → xs ≡ []
     → Wrote old new text (shown word p xs) → Appends old new text
