@@ -1,4 +1,3 @@
-pub mod AttentionSets
 pub mod Ends
 pub mod FoundWords
 pub mod MatchingTests

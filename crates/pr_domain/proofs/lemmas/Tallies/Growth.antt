@@ -1,7 +1,7 @@
 -- Tallies that grow step by step.
-use Rattle.pr_domain.proofs.Common.{◌≡◌, ℕ, ◌+◌, ◌<◌, true, ◌≢◌, ◌⊎◌, List, length, sym, ◌∙◌, subst, inl, inr, arith, cases_eq, Command, UnitState, Test, Item, View, Shows, Tally, has_tallied, Leaves, IsFound, Grows}
-use Rattle.std.proofs.Common.{slice_index_or, ⊎_elim}
-use Rattle.std.proofs.lemmas.List.{get_or_default}
+use Rattle.pr_domain.proofs.Common.{◌≡◌, ℕ, ◌+◌, ◌<◌, true, ◌⊎◌, List, length, inl, inr, arith, Command, UnitState, Test, Item, View, Shows, Tally, has_tallied, Leaves, IsFound, Grows}
+use Rattle.std.proofs.Common.{slice_index_or}
+use Rattle.pr_regions.proofs.lemmas.Keeping.Additions.{AnyBelow, any_or_last}
 
 -- found among these, and so among those
 found_as : (v : View) (c : Command) (tests : List Test) (A B : UnitState → Type 0) (way : ℕ) (i : Item) (q : ℕ) → ((u : UnitState) → Shows v u → A u → B u)
@@ -52,24 +52,10 @@ grows_from_none v c tests t A nobody = record {
   only = λ way i q has pending. inl has;
 }
 
--- what is of one of the first numbers is of one before the last, or of the last
-pub below_or_last : (P : ℕ → Type 0) (n : ℕ) → (k : ℕ) × (k < n + 1) × P k → ((k : ℕ) × (k < n) × P k) ⊎ P n
-below_or_last P n found = at (cases_eq found.0 n)
-  where
-    at : (found.0 ≡ n) ⊎ (found.0 ≢ n) → ((k : ℕ) × (k < n) × P k) ⊎ P n
-    at (inl same) = inr (subst P same found.2)
-    at (inr differs) = inl (found.0, (let below = found.1 in omega arith), found.2)
-
--- one of the first elements is so: at the length of the list that is Any
-abbrev pub AnyBelow : {X : Type 0} → ℕ → (X → Type 0) → List X → Type 0
-AnyBelow {X} n P xs = (k : ℕ) × (x : X) × (k < n) × (slice_index_or xs k x ≡ x) × P x
-
 -- those of one element, after those of the elements before it
 pub grows_by_element : {X : Type 0} (v : View) (c : Command) (tests : List Test) (old mid new : Tally) (xs : List X) (IsOf : X → UnitState → Type 0) (n : ℕ) (x : X) → n < length xs → slice_index_or xs n x ≡ x
     → Grows v c tests old mid (λ u. AnyBelow n (λ y. IsOf y u) xs) → Grows v c tests mid new (IsOf x) → Grows v c tests old new (λ u. AnyBelow (n + 1) (λ y. IsOf y u) xs)
 grows_by_element {X} v c tests old mid new xs IsOf n x small there =
     grows_then v c tests old mid new (λ u. AnyBelow n (λ y. IsOf y u) xs) (IsOf x) (λ u. AnyBelow (n + 1) (λ y. IsOf y u) xs)
     (λ u shown any. (any.0, any.1, (let below = any.2 in omega arith), any.3, any.4)) (λ u shown is. (n, x, omega arith, there, is))
-    (λ u shown any. ⊎_elim (λ before. inl (before.0, before.2.0, before.1, before.2.1, before.2.2))
-    (λ last. inr (subst (λ y. IsOf y u) (sym last.1 ∙ get_or_default xs n last.0 x small ∙ there) last.2))
-    (below_or_last (λ k. (y : X) × (slice_index_or xs k y ≡ y) × IsOf y u) n (any.0, any.2, (any.1, any.3, any.4))))
+    (λ u shown. any_or_last (λ y. IsOf y u) xs n x small there)

@@ -1,5 +1,5 @@
 use Rattle.pr_domain.proofs.Common.{List, All, Command, Test, view_in, Scope, IsAt, Grows, IsRight}
-use Rattle.pr_domain.proofs.lemmas.Tallies.Growth.{AnyBelow}
+use Rattle.pr_regions.proofs.lemmas.Keeping.Additions.{AnyBelow}
 use Rattle.pr_domain.proofs.tallying.add_branches.Given as goal
 
 abbrev pub invariant-loop-branch : goal.invariant-loop-branch

@@ -1,6 +1,6 @@
 use Rattle.pr_domain.proofs.Common.{List, All, Command, Test, view_in, Scope, Grows, IsReadAt}
 use Rattle.pr_domain.specs.inside.Tallies.{IsRightReading}
-use Rattle.pr_domain.proofs.lemmas.Tallies.Growth.{AnyBelow}
+use Rattle.pr_regions.proofs.lemmas.Keeping.Additions.{AnyBelow}
 use Rattle.pr_domain.proofs.tallying.add_readings.Given as goal
 
 abbrev pub invariant-loop-reading : goal.invariant-loop-reading

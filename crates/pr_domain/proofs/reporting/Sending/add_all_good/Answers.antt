@@ -2,7 +2,7 @@ use Rattle.pr_domain.proofs.Common.{ℕ, ◌+◌, ◌<◌, ◌⊎◌, arith, End
 use Rattle.std.proofs.Common.{⊎_elim}
 use Rattle.pr_domain.proofs.lemmas.Reporting.OutcomeLists.{more_by, more_then}
 use Rattle.pr_domain.proofs.lemmas.Tallies.EndingWays.{good_all}
-use Rattle.pr_domain.proofs.lemmas.Tallies.Growth.{below_or_last}
+use Rattle.pr_regions.proofs.lemmas.Keeping.Additions.{below_or_last}
 use Rattle.pr_domain.proofs.reporting.Sending.add_all_good.Goals as goal
 
 pub loop-arm-preserved : goal.loop-arm-preserved
