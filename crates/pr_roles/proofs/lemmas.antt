@@ -1,4 +1,3 @@
-pub mod FirstElements
 pub mod FirstStarts
 pub mod Fitting
 pub mod Invariants

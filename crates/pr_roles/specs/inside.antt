@@ -1,4 +1,3 @@
 pub mod ControlCodes
-pub mod FirstElements
 pub mod Invariants
 pub mod StoredStarts
