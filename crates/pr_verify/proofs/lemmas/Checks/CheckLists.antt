@@ -1,22 +1,17 @@
 -- Checks that are made side by side: lists of them, and what they come to.
-use Rattle.pr_verify.proofs.Common.{◌≡◌, ℕ, zero, suc, ◌+◌, ◌<◌, List, [], ◌∷◌, ◌++◌, length, slice_index_or, Ok, Err, Result, sym, subst, arith, task, Scenario, scenario_of, HasOutline, OnScripted, SendsFit, Refusal, IsAnswerFor, EachFrom, IsAnswerBefore, below_more}
+use Rattle.pr_verify.proofs.Common.{◌≡◌, ℕ, suc, ◌+◌, List, [], ◌∷◌, ◌++◌, length, slice_index_or, Ok, Err, Result, refl, sym, subst, arith, task, Scenario, scenario_of, HasOutline, OnScripted, SendsFit, Refusal, IsAnswerFor, EachFrom, IsAnswerBefore, below_more}
 use Rattle.std.specs.Result.{result_and}
+use Rattle.std.proofs.lemmas.List.{get_or_append_left, get_or_push, length_push}
 use Rattle.pr_verify.specs.declared.each.CheckOf.{CheckOf}
 use Rattle.pr_verify.specs.inside.Checks.{IsPromised}
 use Rattle.pr_verify.proofs.lemmas.Verdicts.Reasons.{is_verdict}
 
 -- ---- lists, numbered
 
--- P holds of each element at its place, and of one more
-placed_more : {X : Type 0} (P : ℕ → X → Type 0) (xs : List X) (x : X) → P (length xs) x → ((i : ℕ) (d : X) → i < length xs → P i (slice_index_or xs i d)) → (i : ℕ) (d : X) → i < length (xs ++ x ∷ [])
-    → P i (slice_index_or (xs ++ x ∷ []) i d)
-placed_more P [] x here before zero d there = here
-placed_more P [] x here before (suc i) d there = absurd (omega arith)
-placed_more P (y ∷ ys) x here before zero d there = before 0 d (omega arith)
-placed_more P (y ∷ ys) x here before (suc i) d there = placed_more (λ k. P (suc k)) ys x here (λ k e below. before (suc k) e (omega arith)) i d (omega arith)
-
 pub each_more : {X : Type 0} (P : ℕ → X → Type 0) (n k : ℕ) (xs ys : List X) (x : X) → ys ≡ xs ++ x ∷ [] → n + length xs ≡ k → P k x → EachFrom P n xs → EachFrom P n ys
-each_more P n k xs ys x pushed last here before = subst (EachFrom P n) (sym pushed) (placed_more (λ i. P (n + i)) xs x (subst (λ m. P m x) (sym last) here) before)
+each_more P n k xs ys x pushed last here before = subst (EachFrom P n) (sym pushed) (λ i d there.
+    below_more (λ j. P (n + j) (slice_index_or (xs ++ x ∷ []) j d)) (length xs) (λ j small. rw (get_or_append_left xs (x ∷ []) d j small) (before j d small))
+    (rw (get_or_push xs x d (length xs) refl, last) here) i (rw length_push at there))
 
 pub each_first : {X : Type 0} (P : ℕ → X → Type 0) (n : ℕ) (xs ys : List X) (x : X) → xs ≡ x ∷ ys → EachFrom P n xs → P n x
 each_first P n xs ys x is each =

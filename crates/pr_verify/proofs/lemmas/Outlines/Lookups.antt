@@ -1,5 +1,6 @@
 -- The view at a line, by the place of its entry.
-use Rattle.pr_verify.proofs.Common.{◌≡◌, ℕ, zero, suc, ◌<◌, true, false, ◌≢◌, ◌⊎◌, List, [], ◌∷◌, map, length, if◌then◌else◌, ◌==◌, slice_index_or, Some, None, All, AllWithin, Contains, sym, refl, ap, ◌∙◌, inl, inr, arith, cases_eq, eqb_tells, same_Some, View, view_at}
+use Rattle.pr_verify.proofs.Common.{◌≡◌, ℕ, zero, suc, ◌<◌, true, false, ◌≢◌, ◌⊎◌, List, [], ◌∷◌, map, length, ◌==◌, slice_index_or, Some, None, All, AllWithin, Contains, sym, refl, ◌∙◌, inl, inr, arith, cases_eq, same_Some, View, view_at}
+use Rattle.std.proofs.lemmas.Bool.Decides.{nat_tests}
 use Rattle.std.proofs.lemmas.List.Elements.{All-tail}
 
 module _ {A : Type 0} (f : A → View) where
@@ -8,18 +9,10 @@ module _ {A : Type 0} (f : A → View) where
   entries xs = map (λ e. (e.0, f e.1)) xs
 
   at_first : (x : ℕ × A) (xs : List (ℕ × A)) (line : ℕ) → x.0 ≡ line → view_at (entries (x ∷ xs)) line ≡ Some (f x.1)
-  at_first x xs line same = at (eqb_tells x.0 line)
-    where
-      at : (((x.0 == line) ≡ true) × (x.0 ≡ line)) ⊎ (((x.0 == line) ≡ false) × (x.0 ≢ line)) → view_at (entries (x ∷ xs)) line ≡ Some (f x.1)
-      at (inl is) = ap (λ b. if b then Some (f x.1) else view_at (entries xs) line) is.0
-      at (inr other) = absurd (other.1 same)
+  at_first x xs line same = let is : (x.0 == line) ≡ true = grind (arith, nat_tests) in rw is refl
 
   at_rest : (x : ℕ × A) (xs : List (ℕ × A)) (line : ℕ) → (x.0 ≡ line → ⊥) → view_at (entries (x ∷ xs)) line ≡ view_at (entries xs) line
-  at_rest x xs line differs = at (eqb_tells x.0 line)
-    where
-      at : (((x.0 == line) ≡ true) × (x.0 ≡ line)) ⊎ (((x.0 == line) ≡ false) × (x.0 ≢ line)) → view_at (entries (x ∷ xs)) line ≡ view_at (entries xs) line
-      at (inl is) = absurd (differs is.1)
-      at (inr other) = ap (λ b. if b then Some (f x.1) else view_at (entries xs) line) other.0
+  at_rest x xs line differs = let other : (x.0 == line) ≡ false = grind (arith, nat_tests) in rw other refl
 
   pub view_at_found : (xs : List (ℕ × A)) (line n : ℕ) (d : ℕ × A) → n < length xs → AllWithin (λ x. x.0 ≢ line) xs 0 n → (slice_index_or xs n d).0 ≡ line
       → view_at (entries xs) line ≡ Some (f (slice_index_or xs n d).1)

@@ -142,13 +142,9 @@ module _ (s : Scenario) (o : Outline) (spots : List Spot) (n : ℕ) (x : Spot) (
     first = holds_earlier (λ (y : Spot). y.line) (λ y. FitsAt s o (place_of y)) spots n x rise read fit;
   }
 
-  -- one that fits after others
-  pub fit_more : AllWithin (λ p. FitsAt s o (place_of p)) spots 0 n → FitsAt s o (place_of x) → AllWithin (λ p. FitsAt s o (place_of p)) spots 0 (n + 1)
-  fit_more fit here = AllWithin-more (λ p. FitsAt s o (place_of p)) spots 0 n fit (at_read spots (λ p. FitsAt s o (place_of p)) n x small read here)
-
   pub either_misfit : rise_above 0 (map (λ (p : Spot). p.line) spots) ≡ true → (first here : Option Refusal) → IsMisfitSoFar s o spots n first → IsMisfit s o (place_of x) here → IsMisfitSoFar s o spots (n + 1) (option_or first here)
   either_misfit rise (Some refusal) here one is = one
-  either_misfit rise None None fit fits = fit_more fit fits
+  either_misfit rise None None fit fits = AllWithin-more (λ p. FitsAt s o (place_of p)) spots 0 n fit (at_read spots (λ p. FitsAt s o (place_of p)) n x small read fits)
   either_misfit rise None (Some refusal) fit reason = is_misfit rise refusal fit reason
 
 pub misfit_of_all : (s : Scenario) (o : Outline) (spots : List Spot) (n : ℕ) (first : Option Refusal) → length spots ≤ n → IsMisfitSoFar s o spots n first → IsFirstMisfit s o spots first

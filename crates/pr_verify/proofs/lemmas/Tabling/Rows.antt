@@ -1,9 +1,10 @@
 -- The row of a place, by the outcomes of its command.
 use Rattle.pr_verify.proofs.Common.{◌≡◌, ℕ, ◌+◌, ◌<◌, ◌≤◌, Bool, true, false, ◌⊎◌, ◌↔◌, List, [], ◌∷◌, ◌++◌, map, length, get_or, IsTrue, Some, All, Contains, Option, AllPairs, sym, refl, ap, ◌∙◌, subst, inl, inr, arith, AllZip, cases_lt, All-map, Contains-append_left, position-Some, map-map, Stmts, matches, refusals_of, Task, Scripted, task, Scenario, view_of, View, KeptView, AreOutcomes, Class, Landing, NoArm, Arm, Outline, IsListed, KeepsToRole, OnScripted, Place, places_of, class_number, outline_of, IsMadeFor, IsScripted, IsRow, KeptOutline, Spot, place_of, IsInRange}
+use Rattle.std.proofs.Common.{cond}
 use Rattle.std.specs.List.{filter, range_with_len}
-use Rattle.std.proofs.lemmas.List.{map-append, map-id, append-nil}
-use Rattle.std.proofs.lemmas.List.FromFn.{map-range_with_len_more}
-use Rattle.std.proofs.lemmas.List.Elements.{All-push, filter-append, Contains-push, Contains-push_cases, Contains-get_or}
+use Rattle.std.proofs.lemmas.List.{map-id, map_push, append-nil}
+use Rattle.std.proofs.lemmas.List.FromFn.{filter_of_map_range_with_len_more}
+use Rattle.std.proofs.lemmas.List.Elements.{All-push, Contains-push, Contains-push_cases, Contains-get_or}
 use Rattle.std.proofs.lemmas.List.Quantifiers.{all_pairs_push}
 use Rattle.pr_script.specs.declared.script.Test.TheVariants as test
 use Rattle.pr_script.specs.declared.landing.Class.TheVariants.{Sense}
@@ -14,72 +15,52 @@ use Rattle.pr_views.specs.declared.table.Table.{Table as KeptTable}
 use Rattle.pr_verify.proofs.lemmas.Reviewing.Findings.{place_lines}
 use Rattle.pr_verify.proofs.lemmas.Reviewing.FittingPlaces.{IsHere, landing_listed, lands_so, lacks_arm, lacking_listed}
 
--- ---- lists that rise
+-- ---- lists that rise by a number
 
--- those below k of which it holds
-abbrev pub AreBelow : (ℕ → Type 0) → ℕ → List ℕ → Type 0
-AreBelow P k xs = (n : ℕ) → Contains xs n ↔ ((n < k) × P n)
+-- those with a smaller number of which it holds
+abbrev pub AreBefore : {X : Type 0} → (X → ℕ) → (X → Type 0) → ℕ → List X → Type 0
+AreBefore {X} number P from xs = (x : X) → Contains xs x ↔ ((number x < from) × P x)
 
-module _ (P : ℕ → Type 0) (k : ℕ) (xs : List ℕ) (each : AreBelow P k xs) where
-  pub below_same : (P k → ⊥) → AreBelow P (k + 1) xs
-  below_same none n = (
-    λ there. let e = (each n).0 there in let less : n < k + 1 = let m = e.0 in omega arith in (less, e.1),
-    λ is. at is (cases_lt n k),
+module _ {X : Type 0} (number : X → ℕ) (P : X → Type 0) (from : ℕ) (xs : List X) (each : AreBefore number P from xs) where
+  -- of none with this number
+  pub before_same : ((x : X) → P x → number x ≡ from → ⊥) → AreBefore number P (from + 1) xs
+  before_same none x = (
+    λ there. let e = (each x).0 there in let less : number x < from + 1 = let m = e.0 in omega arith in (less, e.1),
+    λ is. at is (cases_lt (number x) from),
   )
     where
-      at : (n < k + 1) × P n → (n < k) ⊎ (k ≤ n) → Contains xs n
-      at is (inl less) = (each n).1 (less, is.1)
-      at is (inr more) = let m = is.0 in let same : n ≡ k = omega arith in absurd (none (subst P same is.1))
+      at : (number x < from + 1) × P x → (number x < from) ⊎ (from ≤ number x) → Contains xs x
+      at is (inl less) = (each x).1 (less, is.1)
+      at is (inr more) = let m = is.0 in absurd (none x is.1 (omega arith))
 
-  pub below_more : P k → AreBelow P (k + 1) (xs ++ k ∷ [])
-  below_more one n = (
-    λ there. from (Contains-push_cases xs k n there),
-    λ is. at is (cases_lt n k),
-  )
-    where
-      from : Contains xs n ⊎ (k ≡ n) → (n < k + 1) × P n
-      from (inl there) = let e = (each n).0 there in let less : n < k + 1 = let m = e.0 in omega arith in (less, e.1)
-      from (inr same) = let less : n < k + 1 = omega arith in (less, subst P same one)
+  -- of the next one
+  module _ (next : X) (is : P next) (late : from ≤ number next) (first : (other : X) → P other → from ≤ number other → number next ≤ number other)
+      (alone : (other : X) → P other → number other ≡ number next → other ≡ next) where
+    pub before_more : AreBefore number P (number next + 1) (xs ++ next ∷ [])
+    before_more x = (
+      λ there. at (Contains-push_cases xs next x there),
+      λ has. back has (cases_lt (number x) from),
+    )
+      where
+        at : Contains xs x ⊎ (next ≡ x) → (number x < number next + 1) × P x
+        at (inl there) = let e = (each x).0 there in let less : number x < number next + 1 = let m = e.0 in omega arith in (less, e.1)
+        at (inr same) = let e = ap number same in let less : number x < number next + 1 = omega arith in (less, subst P same is)
 
-      at : (n < k + 1) × P n → (n < k) ⊎ (k ≤ n) → Contains (xs ++ k ∷ []) n
-      at is (inl less) = Contains-append_left xs (k ∷ []) n ((each n).1 (less, is.1))
-      at is (inr more) = let m = is.0 in let same : k ≡ n = omega arith in subst (Contains (xs ++ k ∷ [])) same (Contains-push xs k)
+        back : (number x < number next + 1) × P x → (number x < from) ⊎ (from ≤ number x) → Contains (xs ++ next ∷ []) x
+        back has (inl less) = Contains-append_left xs (next ∷ []) x ((each x).1 (less, has.1))
+        back has (inr more) =
+            let low = first x has.1 more in
+            let high = has.0 in
+            let same : number x ≡ number next = omega arith in
+            subst (Contains (xs ++ next ∷ [])) (sym (alone x has.1 same)) (Contains-push xs next)
 
-  pub rise_more : AllPairs (λ m n. m < n) xs → AllPairs (λ m n. m < n) (xs ++ k ∷ [])
-  rise_more up = all_pairs_push (λ m n. m < n) xs k up (λ j d small. ((each (get_or xs j d)).0 (Contains-get_or xs j d small)).0)
+    pub before_rise : AllPairs (λ c d. number c < number d) xs → AllPairs (λ c d. number c < number d) (xs ++ next ∷ [])
+    before_rise up = all_pairs_push (λ c d. number c < number d) xs next up (λ j d small. let e = ((each (get_or xs j d)).0 (Contains-get_or xs j d small)).0 in omega arith)
 
 -- ---- classes without an arm
 
--- those with a smaller number
-abbrev pub AreBefore : (Class → Type 0) → ℕ → List Class → Type 0
-AreBefore P from cs = (class : Class) → Contains cs class ↔ ((class_number class < from) × P class)
-
-module _ (P : Class → Type 0) (from : ℕ) (cs : List Class) (each : AreBefore P from cs) (next : Class) (is : P next) (late : from ≤ class_number next)
-    (first : (other : Class) → P other → from ≤ class_number other → class_number next ≤ class_number other)
-    (alone : (other : Class) → P other → class_number other ≡ class_number next → other ≡ next) where
-  pub before_more : AreBefore P (class_number next + 1) (cs ++ next ∷ [])
-  before_more class = (
-    λ there. at (Contains-push_cases cs next class there),
-    λ has. back has (cases_lt (class_number class) from),
-  )
-    where
-      at : Contains cs class ⊎ (next ≡ class) → (class_number class < class_number next + 1) × P class
-      at (inl there) = let e = (each class).0 there in let less : class_number class < class_number next + 1 = let m = e.0 in omega arith in (less, e.1)
-      at (inr same) = let e = ap class_number same in let less : class_number class < class_number next + 1 = omega arith in (less, subst P same is)
-
-      back : (class_number class < class_number next + 1) × P class → (class_number class < from) ⊎ (from ≤ class_number class) → Contains (cs ++ next ∷ []) class
-      back has (inl less) = Contains-append_left cs (next ∷ []) class ((each class).1 (less, has.1))
-      back has (inr more) =
-          let low = first class has.1 more in
-          let high = has.0 in
-          let same : class_number class ≡ class_number next = omega arith in
-          subst (Contains (cs ++ next ∷ [])) (sym (alone class has.1 same)) (Contains-push cs next)
-
-  pub before_rise : AllPairs (λ c d. class_number c < class_number d) cs → AllPairs (λ c d. class_number c < class_number d) (cs ++ next ∷ [])
-  before_rise up = all_pairs_push (λ c d. class_number c < class_number d) cs next up (λ j d small. let e = ((each (get_or cs j d)).0 (Contains-get_or cs j d small)).0 in omega arith)
-
 -- those before whose number no class is left are all
-pub all_before : (P : Class → Type 0) (from : ℕ) (cs : List Class) → AreBefore P from cs → ((class : Class) → P class → from ≤ class_number class → ⊥) → (class : Class) → Contains cs class ↔ P class
+pub all_before : (P : Class → Type 0) (from : ℕ) (cs : List Class) → AreBefore class_number P from cs → ((class : Class) → P class → from ≤ class_number class → ⊥) → (class : Class) → Contains cs class ↔ P class
 all_before P from cs each none class = (λ there. ((each class).0 there).1, λ is. at is (cases_lt (class_number class) from))
   where
     at : P class → (class_number class < from) ⊎ (from ≤ class_number class) → Contains cs class
@@ -113,7 +94,7 @@ module _ (s : Scenario) (o : Outline) (p : Place) (v : View) (here : IsHere o p 
   small_arm : (n : ℕ) → TakesArm s o p n → n < length p.tests
   small_arm n takes = (position-Some (λ t. matches t takes.reply) p.tests n test.Good takes.taken).0
 
-  pub row_is : (r : Row) → r.command ≡ p.command → r.tests ≡ p.tests → IsTrue r.permitted ↔ KeepsToRole s o p → AreBelow (λ n. Contains (map (λ x. x.0) xs) (Arm n)) (length p.tests) r.arms → AllPairs (λ m n. m < n) r.arms → ((class : Class) → Contains r.unarmed class ↔ Contains (map (λ x. x.0) xs) (NoArm class))
+  pub row_is : (r : Row) → r.command ≡ p.command → r.tests ≡ p.tests → IsTrue r.permitted ↔ KeepsToRole s o p → AreBefore (λ n. n) (λ n. Contains (map (λ x. x.0) xs) (Arm n)) (length p.tests) r.arms → AllPairs (λ m n. m < n) r.arms → ((class : Class) → Contains r.unarmed class ↔ Contains (map (λ x. x.0) xs) (NoArm class))
       → AllPairs (λ c d. class_number c < class_number d) r.unarmed → IsRow s o p r
   row_is r command tests permitted arms arms_rise unarmed unarmed_rise = record {
     command = command;
@@ -145,24 +126,9 @@ pub lines_listed : (o : KeptOutline) (script : Stmts) (spots : List Spot) → ma
 lines_listed o script spots places listed =
     sym (map-map (λ (e : ℕ × View). e.0) (λ (e : ℕ × KeptView). (e.0, view_of o.host e.1)) o.views.items) ∙ listed ∙ place_lines script spots places
 
-range_more : (n : ℕ) → range_with_len 0 (n + 1) ≡ range_with_len 0 n ++ n ∷ []
-range_more n = sym (map-id (range_with_len 0 (n + 1))) ∙ map-range_with_len_more (λ h. h) 0 n n (omega arith) ∙ ap (λ l. l ++ n ∷ []) (map-id (range_with_len 0 n))
-
-module _ (p : ℕ → Bool) (n : ℕ) where
-  step : filter p (range_with_len 0 (n + 1)) ≡ filter p (range_with_len 0 n) ++ filter p (n ∷ [])
-  step = ap (filter p) (range_more n) ∙ filter-append p (range_with_len 0 n) (n ∷ [])
-
-  pub filter_kept : p n ≡ true → filter p (range_with_len 0 (n + 1)) ≡ filter p (range_with_len 0 n) ++ n ∷ []
-  filter_kept is = step ∙ ap (λ l. filter p (range_with_len 0 n) ++ l) one
-    where
-      one : filter p (n ∷ []) ≡ n ∷ []
-      one = rw is refl
-
-  pub filter_left : p n ≡ false → filter p (range_with_len 0 (n + 1)) ≡ filter p (range_with_len 0 n)
-  filter_left is = step ∙ ap (λ l. filter p (range_with_len 0 n) ++ l) none ∙ append-nil (filter p (range_with_len 0 n))
-    where
-      none : filter p (n ∷ []) ≡ []
-      none = rw is refl
+-- one number more, if it passes
+range_filtered : (p : ℕ → Bool) (n : ℕ) → filter p (range_with_len 0 (n + 1)) ≡ filter p (range_with_len 0 n) ++ cond (p n) (n ∷ []) []
+range_filtered p n = simp map-id at (filter_of_map_range_with_len_more p (λ h. h) 0 n n (omega arith))
 
 -- ---- one table more, or none
 
@@ -176,14 +142,14 @@ module _ (s : Scenario) where
   pub one_table : (n : ℕ) (ts : List KeptTable) (t : KeptTable) → AreBeforeHost n ts → has_script (task s n) ≡ true → t.outline.host ≡ n → OnScripted (task s n) (λ script budget. IsTable s script (table_of t)) → IsMadeFor s t.outline
       → AreBeforeHost (n + 1) (ts ++ t ∷ [])
   one_table n ts t before is host table made = record {
-    hosts = map-append (λ (u : KeptTable). u.outline.host) ts (t ∷ []) ∙ (λ i. before.hosts i ++ host i ∷ []) ∙ sym (filter_kept (λ h. has_script (task s h)) n is);
+    hosts = map_push (λ (u : KeptTable). u.outline.host) ts t ∙ (λ i. before.hosts i ++ host i ∷ []) ∙ sym (rw is at (range_filtered (λ h. has_script (task s h)) n));
     each = All-push (λ u. OnScripted (task s u.outline.host) (λ script budget. IsTable s script (table_of u))) ts t before.each
         (subst (λ h. OnScripted (task s h) (λ script budget. IsTable s script (table_of t))) (sym host) table);
     made = All-push (λ u. IsMadeFor s u.outline) ts t before.made made;
   }
 
   pub no_table : (n : ℕ) (ts : List KeptTable) → AreBeforeHost n ts → has_script (task s n) ≡ false → AreBeforeHost (n + 1) ts
-  no_table n ts before is = record { hosts = before.hosts ∙ sym (filter_left (λ h. has_script (task s h)) n is); each = before.each; made = before.made }
+  no_table n ts before is = record { hosts = before.hosts ∙ sym (rw (is, append-nil) at (range_filtered (λ h. has_script (task s h)) n)); each = before.each; made = before.made }
 
   pub are_tables : (ts : List KeptTable) → AreBeforeHost (length s.nexuses) ts → AreTables s (map table_of ts)
   are_tables ts before = record {

@@ -1,7 +1,7 @@
-use Rattle.pr_verify.proofs.Common.{sym, subst, arith, AllWithin-none, slice_get_within, scenario_of, FitsAt, outline_of, Spot, asker_of, AreAnswers, place_of}
+use Rattle.pr_verify.proofs.Common.{sym, subst, arith, at_read, AllWithin-none, AllWithin-more, slice_get_within, scenario_of, FitsAt, outline_of, Spot, asker_of, AreAnswers, place_of}
 use Rattle.pr_verify.specs.inside.Reviewing.{IsMisfit}
 use Rattle.pr_verify.proofs.lemmas.Known.Questions.{has_view, sends_rise, answered_here}
-use Rattle.pr_verify.proofs.lemmas.Reviewing.Findings.{is_misfit, fit_more}
+use Rattle.pr_verify.proofs.lemmas.Reviewing.Findings.{is_misfit}
 use Rattle.pr_verify.proofs.reviewing.first_misfit.Goals as goal
 
 pub loop-i-init : goal.loop-i-init
@@ -43,7 +43,8 @@ loop-i-preserved c =
     let o = outline_of q.outline.now in
     let y = c.spot-item.result in
     record {
-      fit = fit_more s o q.spots.now c.loop-i.i y c.loop-i-test.true c.spot-item.is c.loop-i.invariant.fit (subst (IsMisfit s o (place_of y)) c.in_default.is c.review-misfit.ensures.misfit);
+      fit = AllWithin-more (λ (p : Spot). FitsAt s o (place_of p)) q.spots.now 0 c.loop-i.i c.loop-i.invariant.fit
+          (at_read q.spots.now (λ p. FitsAt s o (place_of p)) c.loop-i.i y c.loop-i-test.true c.spot-item.is (subst (IsMisfit s o (place_of y)) c.in_default.is c.review-misfit.ensures.misfit));
       known = c.in_ok-answer.ensures.known;
     }
 

@@ -18,9 +18,9 @@ loop-class-preserved c =
     let alone = λ (other : Class) (one : P other) (same : class_number other ≡ class_number next). class_alone other next (ranged other one) (ranged next found.0) same in
     let more = sym c.in_ok-push.ensures.items in
     record {
-      each = subst (AreBefore P (c.number_of-from.result + 1)) more
-          (subst (λ m. AreBefore P (m + 1) (cs ++ next ∷ [])) (sym c.number_of-from.ensures) (before_more P from cs before.each next found.0 found.1 first alone));
-      rise = subst (AllPairs (λ c d. class_number c < class_number d)) more (before_rise P from cs before.each next found.0 found.1 first alone before.rise);
+      each = subst (AreBefore class_number P (c.number_of-from.result + 1)) more
+          (subst (λ m. AreBefore class_number P (m + 1) (cs ++ next ∷ [])) (sym c.number_of-from.ensures) (before_more class_number P from cs before.each next found.0 found.1 first alone));
+      rise = subst (AllPairs (λ c d. class_number c < class_number d)) more (before_rise class_number P from cs before.each next found.0 found.1 first alone before.rise);
     }
 
 pub returns-clause-each : goal.returns-clause-each

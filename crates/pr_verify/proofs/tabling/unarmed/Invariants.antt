@@ -5,7 +5,7 @@ use Rattle.pr_verify.proofs.tabling.unarmed.Given as goal
 
 abbrev pub invariant-loop-class : goal.invariant-loop-class
 invariant-loop-class l = record {
-  each : AreBefore (λ class. Contains (map (λ o. o.0) l.outcomes) (NoArm class)) l.from l.classes.items;
+  each : AreBefore class_number (λ class. Contains (map (λ o. o.0) l.outcomes) (NoArm class)) l.from l.classes.items;
   rise : AllPairs (λ c d. class_number c < class_number d) l.classes.items;
 }
 
