@@ -1,21 +1,19 @@
 -- How nexuses stand at the end of a followed history.
-use Rattle.pr_witness.proofs.Common.{◌≡◌, ℕ, ◌+◌, ◌<◌, List, [], ◌∷◌, ◌++◌, length, take, Option, Some, None, refl, sym, ap, ◌∙◌, subst, arith, map, slice_get, length-map, same_Some, slice_get_within, Item, Parts, Scenario, scenario_of, World, ActFor}
+use Rattle.pr_witness.proofs.Common.{◌≡◌, ℕ, ◌+◌, ◌<◌, List, [], ◌∷◌, ◌++◌, length, take, Option, Some, None, refl, sym, ap, ◌∙◌, subst, arith, map, slice_get, length-map, same_Some, slice_get_within, Parts, Scenario, scenario_of, World, ActFor}
 use Rattle.std.proofs.Common.{zero, suc, ◌≤◌, take_all, add-one}
 use Rattle.std.specs.Prelude.{option_map}
 use Rattle.std.specs.Option.{option_map_or}
 use Rattle.std.proofs.lemmas.Option.{get_or_from_slice_get, none-some, slice_get-map}
 use Rattle.pr_cdb.specs.declared.command.Command.{Command}
-use Rattle.pr_script.specs.Scripts.{Standing, Stmts, ready, stopped, standing_of_items}
+use Rattle.pr_script.specs.Scripts.{Standing, ready, stopped, standing_of_items}
 use Rattle.pr_roles.specs.declared.parts.Nexus.{Nexus as NexusPart}
 use Rattle.pr_roles.specs.Fitting.{Fits}
-use Rattle.pr_roles.specs.Safety.{KeepsBudgetBy}
 use Rattle.pr_roles.specs.Scenarios.{Nexus, Task, Planned, Scripted, nexus, nexus_of, task, task_of}
 use Rattle.pr_roles.specs.Schedules.{plan_of}
-use Rattle.pr_roles.specs.Worlds.{Control, Going, Trapped, Free, commands_by, control}
+use Rattle.pr_roles.specs.Worlds.{Control, Going, Trapped, Free, control}
 use Rattle.pr_audit.specs.inside.Auditing.{IsShort}
 use Rattle.pr_audit.specs.Ends.{Ending, ending, ending_by, endings, stops, waits, traps, leaves}
 use Rattle.pr_audit.proofs.lemmas.Auditing.Parts.{short_part}
-use Rattle.pr_witness.specs.inside.Following.{IsOverBudget}
 use Rattle.pr_witness.proofs.lemmas.FollowedHistories.{control_there}
 
 -- only a trapped script ends so
@@ -28,14 +26,6 @@ trapped_from (Going l) line is = by (standing_of_items l) is
     by (Some (stopped word)) same = let bad : Some (stops word) ≡ Some (traps line) = same in cc
 trapped_from (Trapped at) line is = let both : Some (traps at) ≡ Some (traps line) = is in let same : at ≡ line = cc in ap Trapped same
 trapped_from Free line is = let bad : Some (leaves 0) ≡ Some (traps line) = is in cc
-
--- more commands than the budget
-pub over_budget : (s : Scenario) (history : List Item) (h : ℕ) (t : Task) (script : Stmts) (budget : ℕ) → task s h ≡ Some t → t ≡ Scripted script budget → budget < commands_by history h → IsOverBudget s history h
-over_budget s history h t script budget there is over w whole keeps =
-    let kept : KeepsBudgetBy (Some (Scripted script budget)) w h = subst (λ o. KeepsBudgetBy o w h) (there ∙ ap Some is) keeps in
-    let few : commands_by history h ≤ budget = subst (λ es. commands_by es h ≤ budget) whole kept in
-    let bad : budget < budget = omega arith in
-    absurd (omega (arith, bad))
 
 -- the end of one nexus more
 endings_take : (ks : List Control) (plans : List (List Command)) (i : ℕ) (plan : List Command) → i < length ks → slice_get plans i ≡ Some plan

@@ -1,8 +1,7 @@
 -- Histories that are followed, and what their last item breaks.
-use Rattle.pr_witness.proofs.Common.{◌≡◌, ℕ, ◌+◌, ◌<◌, List, [], ◌∷◌, ◌++◌, length, take, Some, None, refl, sym, ap, ◌∙◌, subst, arith, length-map, UnitState, Item, Parts, Scenario, scenario_of, IsAllowedStart, World, ActFor, world_at, IsRunOf}
-use Rattle.std.proofs.Common.{true, false, get_or}
+use Rattle.pr_witness.proofs.Common.{◌≡◌, ℕ, ◌<◌, List, [], ◌∷◌, ◌++◌, length, Some, None, refl, sym, ap, ◌∙◌, subst, arith, length-map, UnitState, Item, Parts, Scenario, scenario_of, IsAllowedStart, World, ActFor, world_at, IsRunOf}
+use Rattle.std.proofs.Common.{true, false}
 use Rattle.std.specs.Prelude.{vec_len}
-use Rattle.std.proofs.lemmas.List.{take_more}
 use Rattle.pr_cdb.specs.declared.command.Command.{Command}
 use Rattle.pr_cdb.specs.declared.reply.Reply.{Reply}
 use Rattle.pr_cdb.specs.declared.wire.Request.TheVariants.{Plain}
@@ -36,20 +35,13 @@ control_there s w h acts there =
 pub followed_first : (s : Scenario) (u : UnitState) (a : Auditor) → world_at a [] ≡ world_from s u → ActFor s (world_at a []) → IsFollowed s u [] (world_at a [])
 followed_first s u a world acts = record { reaches = record { events = []; run = world; items = refl }; acts = acts }
 
--- one item more
-pub followed_then : (s : Scenario) (u : UnitState) (history : List Item) (a b : Auditor) (e : Item) → IsFollowed s u history (world_at a history)
-    → Adds s (world_at a history) e (world_at b (history ++ e ∷ [])) → ActFor s (world_at b []) → IsFollowed s u (history ++ e ∷ []) (world_at b (history ++ e ∷ []))
-followed_then s u history a b e followed adds acts = record {
-  reaches = reaches_more s u history (world_at a history) e (world_at b (history ++ e ∷ [])) followed.reaches adds;
+-- the item is the last one of the history
+pub followed_whole : (s : Scenario) (u : UnitState) (history before : List Item) (a b : Auditor) (e : Item) → history ≡ before ++ e ∷ [] → IsFollowed s u before (world_at a before)
+    → IsTried s (world_at a before) e true (world_at b (before ++ e ∷ [])) → ActFor s (world_at b []) → IsFollowed s u history (world_at b history)
+followed_whole s u history before a b e whole followed tried acts = subst (λ es. IsFollowed s u es (world_at b es)) (sym whole) (record {
+  reaches = reaches_more s u before (world_at a before) e (world_at b (before ++ e ∷ [])) followed.reaches tried.0;
   acts = record { hosts = acts.hosts; tasks = acts.tasks };
-}
-
-pub followed_more : (s : Scenario) (u : UnitState) (history : List Item) (i : ℕ) (a b : Auditor) (e : Item) → i < length history → e ≡ get_or history i e
-    → IsTried s (world_at a (take i history)) e true (world_at b (take i history ++ e ∷ [])) → ActFor s (world_at b [])
-    → IsFollowed s u (take i history) (world_at a (take i history)) → IsFollowed s u (take (i + 1) history) (world_at b (take (i + 1) history))
-followed_more s u history i a b e there is tried acts followed =
-    let more : take (i + 1) history ≡ take i history ++ e ∷ [] = take_more history i e there ∙ ap (λ x. take i history ++ x ∷ []) (sym is) in
-    subst (λ es. IsFollowed s u es (world_at b es)) (sym more) (followed_then s u (take i history) a b e followed tried.0 acts)
+})
 
 -- ---- a command outside its host's role
 
@@ -99,12 +91,6 @@ forbidden_breaks s u history a b (Sent e) (leaves_role h line) followed adds wit
     (record { sender = with_it.sender; command = with_it.command; ready = with_it.ready; good = with_it.good; forbidden = with_it.forbidden }) adds
 forbidden_breaks s u history a b (Sent e) (exceeds_budget h) followed adds bad = absurd bad
 forbidden_breaks s u history a b Reset broken followed adds bad = absurd bad
-
--- the item is the last one of the history
-pub followed_whole : (s : Scenario) (u : UnitState) (history before : List Item) (a b : Auditor) (e : Item) → history ≡ before ++ e ∷ [] → IsFollowed s u before (world_at a before)
-    → IsTried s (world_at a before) e true (world_at b (before ++ e ∷ [])) → ActFor s (world_at b []) → IsFollowed s u history (world_at b history)
-followed_whole s u history before a b e whole followed tried acts =
-    subst (λ es. IsFollowed s u es (world_at b es)) (sym whole) (followed_then s u before a b e followed tried.0 acts)
 
 pub forbidden_whole : (s : Scenario) (u : UnitState) (history before : List Item) (a b : Auditor) (e : Item) (broken : Broken) → history ≡ before ++ e ∷ []
     → IsFollowed s u before (world_at a before) → IsTried s (world_at a before) e true (world_at b (before ++ e ∷ [])) → ActFor s (world_at b [])
