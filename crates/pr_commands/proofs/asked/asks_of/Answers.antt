@@ -7,7 +7,7 @@ use Rattle.std.proofs.lemmas.List.{drop_more, length-replicate, length-set}
 use Rattle.pr_explore.specs.Exits.{Exit}
 use Rattle.pr_explore.specs.Together.{exit_in}
 use Rattle.pr_commands.specs.Asked.{is_free}
-use Rattle.pr_commands.proofs.lemmas.Ends.Asks.{ask_more, ask_none, ask_twice, exits_set, nothing_asked}
+use Rattle.pr_commands.proofs.lemmas.Ends.Asks.{ask_none, asked_so, exits_set, nothing_asked}
 use Rattle.pr_commands.proofs.lemmas.Replays.Plans.{nexuses_in}
 use Rattle.pr_commands.proofs.lemmas.Steps.Words.{few_nexuses}
 use Rattle.pr_commands.proofs.asked.asks_of.Goals as goal
@@ -51,7 +51,7 @@ returns-then-not-has_script c =
           (λ i. (sym c.has_script.ensures ∙ w.if-not-has_script.false) i
           && (ap (λ (es : List (Option End)). is_free (slice_index_or (exits_of es) c.in-Some.host None)) (sym w.deref-else-not-has_script.ensures.value) ∙ sym w.is_free.ensures ∙ w.if-not-is_free.true) i)
     ] in
-    sym (sym c.loop-word.invariant.0 ∙ this ∙ ask_twice s asks _ _ (c.in-Some.host, exit_in (Some c.in-Some.end)) is no)
+    sym (sym c.loop-word.invariant.0 ∙ this ∙ asked_so s asks _ _ (c.in-Some.host, exit_in (Some c.in-Some.end)) false is no)
 
 pub loop-word-preserved : goal.loop-word-preserved
 loop-word-preserved c =
@@ -67,7 +67,7 @@ loop-word-preserved c =
     let scripted : has_script (task s c.in-Some.host) ≡ true = sym c.has_script.ensures ∙ c.if-not-has_script.false in
     let free : is_free (slice_index_or asks c.in-Some.host None) ≡ true =
     ap (λ (es : List (Option End)). is_free (slice_index_or (exits_of es) c.in-Some.host None)) (sym c.deref-else-not-has_script.ensures.value) ∙ sym c.is_free.ensures ∙ c.if-not-is_free.false in
-    let more = ask_more s asks _ rest (c.in-Some.host, x) is (λ i. scripted i && free i) in (
+    let more = asked_so s asks _ rest (c.in-Some.host, x) true is (λ i. scripted i && free i) in (
       ap (λ (ys : List (Option Exit)). asks_from s ys rest) (exits_set items c.from.result c.in-Some.end ∙ ap (λ (h : ℕ). slice_set asks h (Some x)) c.from.ensures) ∙ sym more ∙ sym this ∙ c.loop-word.invariant.0,
       length-set items c.from.result (Some c.in-Some.end) ∙ c.loop-word.invariant.1,
     )

@@ -1,7 +1,7 @@
 -- Words, and the steps that they are.
-use Rattle.pr_commands.proofs.Common.{option_map, option_and_then, refl, sym, ap, ◌∙◌, zero, suc, arith, All, IsThere, Parts, scenario_of, steps_of}
+use Rattle.pr_commands.proofs.Common.{option_map, option_and_then, refl, sym, ap, ◌∙◌, Parts, scenario_of, steps_of}
 use Rattle.std.specs.Prelude.{◌≡◌, ℕ, ◌≤◌, List, [], ◌∷◌, ◌++◌, length, Option, Some, None}
-use Rattle.std.proofs.lemmas.List.Elements.{All-append}
+use Rattle.std.proofs.lemmas.List.{append_assoc}
 use Rattle.pr_cdb.specs.declared.codes.TheConstants.{MOST_NEXUSES}
 use Rattle.pr_roles.specs.declared.step.Step.{Step}
 use Rattle.pr_roles.specs.Fitting.{Fits}
@@ -12,18 +12,10 @@ use Rattle.pr_commands.specs.Steps.{step_in}
 abbrev pub onto : List Step → Option (List Step) → Option (List Step)
 onto steps rest = option_map (λ more. steps ++ more) rest
 
-append-assoc : (xs : List Step) (x : Step) (ys : List Step) → (xs ++ x ∷ []) ++ ys ≡ xs ++ x ∷ ys
-append-assoc [] x ys = refl
-append-assoc (y ∷ xs) x ys = ap (λ l. y ∷ l) (append-assoc xs x ys)
-
-append-none : (xs : List Step) → xs ++ [] ≡ xs
-append-none [] = refl
-append-none (x ∷ xs) = ap (λ l. x ∷ l) (append-none xs)
-
 onto-more : (steps : List Step) (step : Step) (rest : Option (List Step))
     → onto steps (option_map (λ more. step ∷ more) rest) ≡ onto (steps ++ step ∷ []) rest
 onto-more steps step None = refl
-onto-more steps step (Some more) = ap Some (sym (append-assoc steps step more))
+onto-more steps step (Some more) = ap Some (sym (append_assoc steps (step ∷ []) more))
 
 -- a word that is a step
 pub named_more : (version : ℕ) (names : List (List ℕ)) (w : List ℕ) (ws : List (List ℕ)) (step : Step) (steps : List Step) → step_in version names w ≡ Some step
@@ -36,14 +28,6 @@ pub named_none : (version : ℕ) (names : List (List ℕ)) (w : List ℕ) (ws : 
     → onto steps (steps_of version names (w ∷ ws)) ≡ None
 named_none version names w ws steps none =
     ap (λ o. onto steps (option_and_then (λ s. option_map (λ more. s ∷ more) (steps_of version names ws)) o)) none
-
--- one nexus more is there
-pub all_more : (n : ℕ) (step : Step) (steps : List Step) → All (IsThere n) steps → IsThere n step → All (IsThere n) (steps ++ step ∷ [])
-all_more n step steps all there = All-append (IsThere n) steps (step ∷ []) all one
-  where
-    one : All (IsThere n) (step ∷ [])
-    one zero d short = there
-    one (suc k) d short = absurd (omega (arith, short))
 
 -- ---- the parts of a scenario
 

@@ -1,25 +1,19 @@
 -- How the lines of a witness go out, one for each nexus.
-use Rattle.pr_commands.proofs.Common.{◌≡◌, ℕ, ◌+◌, ◌<◌, ◌≤◌, Bool, List, ◌++◌, drop, length, Option, ap, ◌∙◌, subst, arith, flat_map, range_with_len, Appends, FallsShort, Wrote, flat_map_end, flat_map_from, wrote_all, wrote_front, wrote_more, pending_line}
+use Rattle.pr_commands.proofs.Common.{◌≡◌, ℕ, ◌+◌, ◌<◌, ◌≤◌, Bool, List, ◌++◌, drop, length, Option, ap, ◌∙◌, subst, arith, flat_map, range_with_len, Appends, Wrote, flat_map_end, flat_map_from, wrote_all, pending_line}
 use Rattle.std.proofs.Common.{zero-add}
 use Rattle.std.proofs.lemmas.List.FromFn.{get_or-range_with_len, length-range_with_len}
 
-module _ (f : ℕ → List ℕ) (n i : ℕ) (old mid new : Option (List ℕ)) where
+module _ (f : ℕ → List ℕ) (n i : ℕ) (old mid : Option (List ℕ)) where
   lines_from : i < n → flat_map f (drop i (range_with_len 0 n)) ≡ f i ++ flat_map f (drop (i + 1) (range_with_len 0 n))
   lines_from there =
       let all : length (range_with_len 0 n) ≡ n = length-range_with_len 0 n in
       flat_map_from f (range_with_len 0 n) i 0 (omega arith)
       ∙ ap (λ k. f k ++ flat_map f (drop (i + 1) (range_with_len 0 n))) (get_or-range_with_len 0 n i 0 there ∙ zero-add i)
 
-  pub line_front : i < n → Wrote old mid (flat_map f (range_with_len 0 n)) (flat_map f (drop i (range_with_len 0 n))) → FallsShort mid new (f i) → FallsShort old new (flat_map f (range_with_len 0 n))
-  line_front there wrote short =
-      wrote_front old mid new (flat_map f (range_with_len 0 n)) (f i) (flat_map f (drop (i + 1) (range_with_len 0 n)))
-      (subst (λ r. Wrote old mid (flat_map f (range_with_len 0 n)) r) (lines_from there) wrote) short
-
-  pub line_more : i < n → Wrote old mid (flat_map f (range_with_len 0 n)) (flat_map f (drop i (range_with_len 0 n))) → Appends mid new (f i)
-      → Wrote old new (flat_map f (range_with_len 0 n)) (flat_map f (drop (i + 1) (range_with_len 0 n)))
-  line_more there wrote appends =
-      wrote_more old mid new (flat_map f (range_with_len 0 n)) (f i) (flat_map f (drop (i + 1) (range_with_len 0 n)))
-      (subst (λ r. Wrote old mid (flat_map f (range_with_len 0 n)) r) (lines_from there) wrote) appends
+  -- what is still to be written begins with this line
+  pub line_first : i < n → Wrote old mid (flat_map f (range_with_len 0 n)) (flat_map f (drop i (range_with_len 0 n)))
+      → Wrote old mid (flat_map f (range_with_len 0 n)) (f i ++ flat_map f (drop (i + 1) (range_with_len 0 n)))
+  line_first there wrote = subst (λ r. Wrote old mid (flat_map f (range_with_len 0 n)) r) (lines_from there) wrote
 
   pub lines_over : n ≤ i → Wrote old mid (flat_map f (range_with_len 0 n)) (flat_map f (drop i (range_with_len 0 n))) → Appends old mid (flat_map f (range_with_len 0 n))
   lines_over past wrote =

@@ -2,7 +2,8 @@
 use Rattle.pr_commands.proofs.Common.{◌+◌, length, drop, sym, ap, ◌∙◌, subst, map, All, IsThere, names_of, steps_of}
 use Rattle.std.proofs.Common.{IfSome}
 use Rattle.std.proofs.lemmas.List.{drop_more}
-use Rattle.pr_commands.proofs.lemmas.Steps.Words.{onto, named_more, named_none, all_more}
+use Rattle.std.proofs.lemmas.List.Elements.{All-push}
+use Rattle.pr_commands.proofs.lemmas.Steps.Words.{onto, named_more, named_none}
 use Rattle.pr_commands.proofs.steps.steps_of.Goals as goal
 
 pub returns-in-None-clause-named : goal.returns-in-None-clause-named
@@ -21,6 +22,6 @@ loop-word-preserved c =
     let items = c.in_ok-push-in-Some.ensures.items in (
       c.loop-word.invariant.0 ∙ (this ∙ (more ∙ ap (λ l. onto l (steps_of version names (map (λ w. w.now) (drop (c.loop-word.word-index + 1) c.args.words.now)))) (sym items))),
       subst (All (IsThere (length c.args.nexuses.now))) (sym items)
-          (all_more (length c.args.nexuses.now) c.in-Some.step c.loop-word.steps.items c.loop-word.invariant.1
+          (All-push (IsThere (length c.args.nexuses.now)) c.loop-word.steps.items c.in-Some.step c.loop-word.invariant.1
           (subst (λ o. IfSome o (IsThere (length c.args.nexuses.now))) c.in-Some.is c.step_in.ensures.there)),
     )
