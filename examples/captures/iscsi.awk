@@ -57,17 +57,20 @@ function forget(key) {
     delete in_of[key]
 }
 
-function login(head, data,    found, initiator, port_name) {
+function login(head, data,    found, initiator, port_name, is_first) {
     if (bytes(head, 24, 4) != "00000000") expected[stream] = number(bytes(head, 24, 4))
     found = text(data)
     initiator = said_of(found, "InitiatorName")
     if (initiator == "") return
     if (!(initiator in named)) stop("no NAME for the initiator " initiator)
+    is_first = !(stream in name_of)
     name_of[stream] = named[initiator]
+    if (said_of(found, "SessionType") == "Discovery") return
     if (target == "") target = said_of(found, "TargetName")
     if (said_of(found, "TargetName") != target) { other_target[stream] = said_of(found, "TargetName"); return }
     port_name = bytes(head, 8, 6)
     if (initiator in port_of && port_of[initiator] != port_name) note(here, "the initiator " initiator " logs in by another ISID, which is a nexus of its own: one NAME stands for both")
+    else if (initiator in port_of && is_first && frame >= after && named[initiator] != "-") note(here, named[initiator] " logs in again: what it is told and holds behind that may be new")
     port_of[initiator] = port_name
 }
 # Commands are numbered (CmdSN), so it can be seen that some are missing.
