@@ -1,3 +1,4 @@
 pub mod Attentions
+pub mod CodeSets
 pub mod SameCodes
 pub mod Flagged

@@ -1,7 +1,8 @@
 //! The unit attentions.
 
 ghost use Rattle.std.specs.Prelude.{◌≡◌, ◌^◌};
-ghost use Rattle.pr_attention.specs.Attentions.{code_of, attention_sense, attention_with};
+ghost use Rattle.pr_attention.specs.Attentions.{code_of, attention_sense};
+ghost use Rattle.pr_attention.specs.CodeSets.{attention_with};
 ghost use Rattle.pr_attention.specs.Flagged.{place_of};
 
 use crate::flags::flag;

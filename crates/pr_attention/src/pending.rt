@@ -3,7 +3,8 @@
 ghost use Rattle.std.specs.Prelude.{◌≡◌, ◌↔◌, ◌<◌, not, IsTrue, IsNone, IfSome, IfNone};
 ghost use Rattle.std.specs.FinSet as set;
 ghost use Rattle.pr_sets.specs.Numbers.{Within};
-ghost use Rattle.pr_attention.specs.Attentions.{code_of, no_code, has_any, AreAttentions, IsLowest, ReportsLowest};
+ghost use Rattle.pr_attention.specs.Attentions.{code_of};
+ghost use Rattle.pr_attention.specs.CodeSets.{no_code, has_any, AreAttentions, IsLowest, ReportsLowest};
 ghost use Rattle.pr_attention.specs.Flagged.{codes_of};
 
 use crate::Attention;

@@ -5,7 +5,7 @@ use Rattle.pr_unit.specs.UnitStates.{UnitState}
 use Rattle.pr_roles.specs.declared.item.Item.{Item}
 use Rattle.pr_roles.specs.Scenarios.{Scenario}
 use Rattle.pr_roles.specs.FirstStarts.{first_state}
-use Rattle.pr_roles.specs.Safety.{IsLegal}
+use Rattle.pr_roles.specs.LegalHistories.{IsLegal}
 use Rattle.pr_audit.specs.declared.auditing.AuditError.{AuditError}
 use Rattle.pr_audit.specs.declared.auditing.AuditError.TheVariants.{Illegal, Memory}
 

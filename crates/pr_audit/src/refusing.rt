@@ -2,7 +2,8 @@
 
 ghost use Rattle.std.specs.Prelude.{◌≡◌, ◌<◌, length};
 ghost use Rattle.pr_unit.specs.Replies.{refused_with};
-ghost use Rattle.pr_roles.specs.Answers.{is_refused, refusals_by, may_come, how_now};
+ghost use Rattle.pr_roles.specs.Answers.{is_refused, refusals_by, may_come};
+ghost use Rattle.pr_roles.specs.Schedules.{how_now};
 ghost use Rattle.pr_roles.specs.Scenarios.{scenario_of};
 
 use arrayvec::ArrayVec;

@@ -1,12 +1,13 @@
 -- Agrees with SPC-4, 'PERSISTENT RESERVE IN command', 'PERSISTENT RESERVE OUT command'; docs/FORMATS.md, 'COMMAND'.
 -- What service actions are called, and the fields that count for each.
 use Rattle.std.specs.Prelude.{ℕ, Bool, true, false, List, [], ◌∷◌, codes}
-use Rattle.std.specs.List.{list_any}
+use Rattle.std.specs.List.{Contains, list_any}
 use Rattle.pr_cdb.specs.declared.action.Direction.{Direction}
 use Rattle.pr_cdb.specs.declared.action.Direction.TheVariants.{In, Out}
 use Rattle.pr_cdb.specs.declared.action.Field.{Field}
 use Rattle.pr_cdb.specs.declared.action.Field.TheVariants.{Rk, Sark, Kind}
 use Rattle.pr_cdb.specs.declared.action.ServiceAction.{ServiceAction}
+use Rattle.pr_cdb.specs.declared.action.TheConstants.ServiceAction.{ALL}
 use Rattle.pr_cdb.specs.declared.action.ServiceAction.TheVariants.{ReadKeys, ReadReservation, ReportCapabilities, Register, RegisterIgnore, Reserve, Release, Clear, Preempt, PreemptAbort}
 
 -- of a service action: where its data goes, the option that names it as in the manual of `sg_persist`, what the standard calls it, and
@@ -43,3 +44,7 @@ has_type fields = list_any is_type fields
     is_type Rk = false
     is_type Sark = false
     is_type Kind = true
+
+-- the list by which the option of a service action is looked up has each of them
+abbrev pub EachActionIsListed : Type 0
+EachActionIsListed = (action : ServiceAction) → Contains ALL action

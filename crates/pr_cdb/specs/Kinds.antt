@@ -5,13 +5,13 @@ use Rattle.std.specs.Prelude.{ℕ, Option, Some, None, ◌==◌, if◌then◌els
 use Rattle.pr_cdb.specs.declared.command.Kind.{Kind}
 use Rattle.pr_cdb.specs.declared.command.Kind.TheVariants.{WriteExclusive, ExclusiveAccess, WriteExclusiveRegistrantsOnly, ExclusiveAccessRegistrantsOnly, WriteExclusiveAllRegistrants, ExclusiveAccessAllRegistrants}
 
-abbrev pub code_of : Kind → ℕ
-code_of WriteExclusive = 1
-code_of ExclusiveAccess = 3
-code_of WriteExclusiveRegistrantsOnly = 5
-code_of ExclusiveAccessRegistrantsOnly = 6
-code_of WriteExclusiveAllRegistrants = 7
-code_of ExclusiveAccessAllRegistrants = 8
+abbrev pub type_code : Kind → ℕ
+type_code WriteExclusive = 1
+type_code ExclusiveAccess = 3
+type_code WriteExclusiveRegistrantsOnly = 5
+type_code ExclusiveAccessRegistrantsOnly = 6
+type_code WriteExclusiveAllRegistrants = 7
+type_code ExclusiveAccessAllRegistrants = 8
 
 -- the type for which a number stands: 2, 4 and the rest stand for none
 unfoldable pub kind_of_code : ℕ → Option Kind

@@ -5,6 +5,8 @@ pub mod Requests
 pub mod Ranges
 pub mod Actions
 pub mod Spelling
+pub mod CommandCodes
 pub mod ReplyData
+pub mod ReadBack
 pub mod Statuses
 pub mod inside

@@ -1,25 +1,18 @@
 -- Agrees with SPC-4, 'PERSISTENT RESERVE IN command'; docs/FORMATS.md, 'Reply bytes'.
 -- The data that replies carry.
-use Rattle.std.specs.Prelude.{ℕ, zero, suc, ◌+◌, ◌-◌, ◌*◌, ◌/◌, ◌%◌, ◌==◌, ◌||◌, not, nat_lt, min, if◌then◌else◌, List, [], ◌∷◌, ◌++◌, length, take, slice_index, Option, Some, None}
+use Rattle.std.specs.Prelude.{ℕ, zero, suc, ◌+◌, ◌-◌, ◌*◌, ◌/◌, ◌%◌, ◌==◌, ◌||◌, nat_lt, min, if◌then◌else◌, List, [], ◌∷◌, ◌++◌, length, take, slice_index, Option, Some, None}
 use Rattle.std.specs.Int.{w32, w64, to_be_bytes}
 use Rattle.std.specs.List.{flat_map}
 use Rattle.pr_cdb.specs.declared.codes.TheConstants.{FIXED_FORMAT, ADDITIONAL_SENSE_LENGTH, HEADER_LENGTH, KEY_LENGTH, RESERVATION_LENGTH, MOST_NEXUSES}
 use Rattle.pr_cdb.specs.declared.command.Kind.{Kind}
 use Rattle.pr_cdb.specs.declared.reply.Sense.{Sense}
-use Rattle.pr_cdb.specs.Kinds.{code_of}
+use Rattle.pr_cdb.specs.Kinds.{type_code}
 use Rattle.pr_cdb.specs.Bytes.{be32, be64}
 
 -- sense data in fixed format, 18 bytes of which all but four are fixed (SPC-4, 'Fixed format sense data')
 unfoldable pub sense_bytes : Sense → List ℕ
 sense_bytes s =
     FIXED_FORMAT ∷ 0 ∷ s.key % 16 ∷ 0 ∷ 0 ∷ 0 ∷ 0 ∷ ADDITIONAL_SENSE_LENGTH ∷ 0 ∷ 0 ∷ 0 ∷ 0 ∷ s.asc ∷ s.ascq ∷ 0 ∷ 0 ∷ 0 ∷ 0 ∷ []
-
--- What sense data in fixed format reports: at least 14 bytes are there, and the low seven bits of the
--- first are 70h.
-unfoldable pub sense_in : List ℕ → Option Sense
-sense_in bytes =
-    if nat_lt (length bytes) 14 || not (slice_index bytes 0 % 128 == FIXED_FORMAT) then None else
-    Some (record { key = slice_index bytes 2 % 16; asc = slice_index bytes 12; ascq = slice_index bytes 13 })
 
 -- READ KEYS: the generation, the additional length, and each registered nexus's key, equal ones repeated
 -- (SPC-4, 'READ KEYS service action')
@@ -33,12 +26,7 @@ unfoldable pub reservation_bytes : ℕ → Option (ℕ × Kind) → List ℕ
 reservation_bytes generation None = to_be_bytes w32 generation ++ to_be_bytes w32 0
 reservation_bytes generation (Some r) =
     to_be_bytes w32 generation ++ to_be_bytes w32 RESERVATION_LENGTH ++ to_be_bytes w64 r.0
-    ++ (0 ∷ 0 ∷ 0 ∷ 0 ∷ 0 ∷ code_of r.1 ∷ 0 ∷ 0 ∷ [])
-
--- what the data of READ RESERVATION says of a reservation: its key and its type, under scope 0
-abbrev pub holder : Option (ℕ × Kind) → Option (ℕ × ℕ)
-holder None = None
-holder (Some r) = Some (r.0, code_of r.1)
+    ++ (0 ∷ 0 ∷ 0 ∷ 0 ∷ 0 ∷ type_code r.1 ∷ 0 ∷ 0 ∷ [])
 
 -- REPORT CAPABILITIES of this unit: 8 bytes, of which the type mask is valid and has all six types
 -- (SPC-4, 'REPORT CAPABILITIES service action')

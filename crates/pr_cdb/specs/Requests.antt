@@ -19,8 +19,8 @@ abbrev pub plain_request : Command → Result Request Bad
 plain_request c = Ok (Plain c)
 
 -- ILLEGAL REQUEST (5h) with this additional sense code
-abbrev pub illegal : ℕ → Result Request Bad
-illegal asc = Ok (Faulty (record { key = ILLEGAL_REQUEST; asc = asc; ascq = 0 }))
+abbrev pub faulty_request : ℕ → Result Request Bad
+faulty_request asc = Ok (Faulty (record { key = ILLEGAL_REQUEST; asc = asc; ascq = 0 }))
 
 -- how many bytes a command with this operation code has, and 0 where the unit has no such command
 -- (SPC-4, 'TEST UNIT READY', 'REQUEST SENSE', 'PERSISTENT RESERVE IN' and 'PERSISTENT RESERVE OUT
@@ -42,16 +42,16 @@ has_refused_flag action flags =
     has_flag flags SPEC_I_PT || ((action == REGISTER || action == REGISTER_AND_IGNORE_EXISTING_KEY) && (has_flag flags ALL_TG_PT || has_flag flags APTPL))
 
 -- the service action of PERSISTENT RESERVE IN, over its allocation length
-abbrev pub reserve_in : ℕ → ℕ → Option Command
-reserve_in action alloc =
+abbrev pub reserve_in_command : ℕ → ℕ → Option Command
+reserve_in_command action alloc =
     if action == READ_KEYS then Some (ReadKeys alloc) else (
     if action == READ_RESERVATION then Some (ReadReservation alloc) else (
     if action == REPORT_CAPABILITIES then Some (ReportCapabilities alloc) else None))
 
 -- the service action of PERSISTENT RESERVE OUT, over its type and its two keys. RESERVE and RELEASE need
 -- a type.
-unfoldable pub reserve_out : ℕ → Option Kind → ℕ → ℕ → Option Command
-reserve_out action kind rk sark =
+unfoldable pub reserve_out_command : ℕ → Option Kind → ℕ → ℕ → Option Command
+reserve_out_command action kind rk sark =
     if action == REGISTER then Some (Register rk sark) else (
     if action == RESERVE then option_map (λ k. Reserve rk k) kind else (
     if action == RELEASE then option_map (λ k. Release rk k) kind else (
@@ -69,8 +69,8 @@ named_command cdb params =
     if opcode == REQUEST_SENSE then Some RequestSense else (
     if opcode == READ_10 then Some (Read (be32 cdb 2) (be16 cdb 7)) else (
     if opcode == WRITE_10 then Some (Write (be32 cdb 2) (be16 cdb 7)) else (
-    if opcode == PERSISTENT_RESERVE_IN then reserve_in action (be16 cdb 7) else
-    reserve_out action (kind_of_byte (slice_index cdb 2)) (be64 params 0) (be64 params 8)))))
+    if opcode == PERSISTENT_RESERVE_IN then reserve_in_command action (be16 cdb 7) else
+    reserve_out_command action (kind_of_byte (slice_index cdb 2)) (be64 params 0) (be64 params 8)))))
 
 -- What the logical unit reads. The first line that applies decides (SPC-4 names the faults and leaves
 -- their order to the device server; this order is our own).
@@ -82,16 +82,16 @@ request_of cdb params =
     let is_out = opcode == PERSISTENT_RESERVE_OUT in
     if length cdb == 0 then Err Short else (
     if opcode == INQUIRY || opcode == REPORT_LUNS then Err (NotModelled opcode) else (
-    if length_of opcode == 0 then illegal INVALID_COMMAND_OPERATION_CODE else (
+    if length_of opcode == 0 then faulty_request INVALID_COMMAND_OPERATION_CODE else (
     if nat_lt (length cdb) (length_of opcode) then Err Short else (
-    if is_sense && has_flag (slice_index cdb 1) DESC then illegal INVALID_FIELD_IN_CDB else (
+    if is_sense && has_flag (slice_index cdb 1) DESC then faulty_request INVALID_FIELD_IN_CDB else (
     if is_sense && nat_lt (slice_index cdb 4) FIXED_SENSE_LENGTH then Err (NotModelled opcode) else (
-    if is_out && nat_lt REGISTER_AND_IGNORE_EXISTING_KEY action then illegal INVALID_FIELD_IN_CDB else (
-    if is_out && not (be32 cdb 5 == PARAMETER_LIST_LENGTH) then illegal PARAMETER_LIST_LENGTH_ERROR else (
+    if is_out && nat_lt REGISTER_AND_IGNORE_EXISTING_KEY action then faulty_request INVALID_FIELD_IN_CDB else (
+    if is_out && not (be32 cdb 5 == PARAMETER_LIST_LENGTH) then faulty_request PARAMETER_LIST_LENGTH_ERROR else (
     if is_out && nat_lt (length params) PARAMETER_LIST_LENGTH then Err Short else (
-    if is_none (named_command cdb params) then illegal INVALID_FIELD_IN_CDB else (
-    if is_out && has_refused_flag action (slice_index params 20) then illegal INVALID_FIELD_IN_PARAMETER_LIST else
-    option_map_or (λ c. plain_request c) (named_command cdb params) (illegal INVALID_FIELD_IN_CDB)))))))))))
+    if is_none (named_command cdb params) then faulty_request INVALID_FIELD_IN_CDB else (
+    if is_out && has_refused_flag action (slice_index params 20) then faulty_request INVALID_FIELD_IN_PARAMETER_LIST else
+    option_map_or (λ c. plain_request c) (named_command cdb params) (faulty_request INVALID_FIELD_IN_CDB)))))))))))
 
 -- what a command as it travels asks for
 abbrev pub request_of_wire : Wire → Result Request Bad

@@ -2,7 +2,7 @@
 -- The bytes of each command, with zero in every field that the command does not name (SPC-4, 'TEST UNIT
 -- READY', 'REQUEST SENSE', 'PERSISTENT RESERVE IN' and 'PERSISTENT RESERVE OUT command'; SBC-3, 'READ
 -- (10)' and 'WRITE (10) command').
-use Rattle.std.specs.Prelude.{◌≡◌, ℕ, List, [], ◌∷◌, ◌++◌, length, take, slice_index, Option, Some, None}
+use Rattle.std.specs.Prelude.{ℕ, List, [], ◌∷◌, ◌++◌, Option, Some, None}
 use Rattle.std.specs.Option.{option_map_or}
 use Rattle.std.specs.Int.{w16, w32, w64, to_be_bytes}
 use Rattle.pr_cdb.specs.declared.codes.TheConstants.{TEST_UNIT_READY, REQUEST_SENSE, READ_10, WRITE_10, PERSISTENT_RESERVE_IN, PERSISTENT_RESERVE_OUT, READ_KEYS, READ_RESERVATION, REPORT_CAPABILITIES, REGISTER, RESERVE, RELEASE, CLEAR, PREEMPT, PREEMPT_AND_ABORT, REGISTER_AND_IGNORE_EXISTING_KEY, FIXED_SENSE_LENGTH, PARAMETER_LIST_LENGTH}
@@ -14,7 +14,7 @@ use Rattle.pr_cdb.specs.declared.action.ServiceAction.TheVariants as action
 use Rattle.pr_cdb.specs.declared.layout.Layout.{Layout}
 use Rattle.pr_cdb.specs.declared.layout.Layout.TheVariants.{TestUnitReady, RequestSense, Read, Write, ReserveIn, ReserveOut}
 use Rattle.pr_cdb.specs.declared.wire.Wire.{Wire}
-use Rattle.pr_cdb.specs.Kinds.{code_of}
+use Rattle.pr_cdb.specs.Kinds.{type_code}
 
 -- a command descriptor block and its parameter list
 abbrev pub wire_of : List ℕ → List ℕ → Wire
@@ -43,7 +43,7 @@ reserve_out action kind rk sark =
 
 -- scope and type: the scope is the logical unit's, which is 0. No type is written as 0.
 abbrev pub kind_byte : Option Kind → ℕ
-kind_byte kind = option_map_or code_of kind 0
+kind_byte kind = option_map_or type_code kind 0
 
 -- a command by its operation code, with the fields that it sends: a key that its service action does not name is zero, and a type
 -- that it does not is none
@@ -76,20 +76,17 @@ action_number action.Clear = CLEAR
 action_number action.Preempt = PREEMPT
 action_number action.PreemptAbort = PREEMPT_AND_ABORT
 
--- how the standards tell commands apart: by the operation code, and the service action where there is one
-abbrev pub layout_codes : Layout → List ℕ
-layout_codes TestUnitReady = TEST_UNIT_READY ∷ []
-layout_codes RequestSense = REQUEST_SENSE ∷ []
-layout_codes (Read lba blocks) = READ_10 ∷ []
-layout_codes (Write lba blocks) = WRITE_10 ∷ []
-layout_codes (ReserveIn action alloc) = PERSISTENT_RESERVE_IN ∷ action_number action ∷ []
-layout_codes (ReserveOut action kind rk sark) = PERSISTENT_RESERVE_OUT ∷ action_number action ∷ []
-
-abbrev pub command_codes : Command → List ℕ
-command_codes c = layout_codes (layout_of c)
+-- the operation code of a command
+abbrev pub layout_opcode : Layout → ℕ
+layout_opcode TestUnitReady = TEST_UNIT_READY
+layout_opcode RequestSense = REQUEST_SENSE
+layout_opcode (Read lba blocks) = READ_10
+layout_opcode (Write lba blocks) = WRITE_10
+layout_opcode (ReserveIn action alloc) = PERSISTENT_RESERVE_IN
+layout_opcode (ReserveOut action kind rk sark) = PERSISTENT_RESERVE_OUT
 
 abbrev pub operation_code : Command → ℕ
-operation_code c = slice_index (command_codes c) 0
+operation_code c = layout_opcode (layout_of c)
 
 abbrev pub laid_out : Layout → Wire
 laid_out TestUnitReady = six TEST_UNIT_READY 0
@@ -101,7 +98,3 @@ laid_out (ReserveOut action kind rk sark) = reserve_out (action_number action) (
 
 unfoldable pub spelling : Command → Wire
 spelling c = laid_out (layout_of c)
-
--- what is written begins with the codes of the command
-abbrev pub BeginsWithCodes : Command → Wire → Type 0
-BeginsWithCodes c wire = take (length (command_codes c)) wire.cdb.items ≡ command_codes c

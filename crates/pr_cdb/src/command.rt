@@ -1,7 +1,7 @@
 //! The commands, and the types of a persistent reservation.
 
 ghost use Rattle.std.specs.Prelude.{◌≡◌};
-ghost use Rattle.pr_cdb.specs.Kinds.{code_of, kind_of_code};
+ghost use Rattle.pr_cdb.specs.Kinds.{type_code, kind_of_code};
 
 /// The type of a persistent reservation (SPC-4, 'Persistent reservations type').
 ///
@@ -19,7 +19,7 @@ pub enum Kind {
 impl Kind {
     /// The number that stands for this type in a command: 1, 3, 5, 6, 7 or 8.
     pub fn code(self) -> u8
-        ensures { result ≡ code_of self }
+        ensures { result ≡ type_code self }
     {
         self as u8
     }

@@ -1,7 +1,9 @@
-//! The numbers of the standards, each law the contract of a function with nothing to do: a number that is changed in the code
-//! fails here, though the definitions cite it by its name.
+//! The numbers of the standards, and the list of the service actions, each law the contract of a function with nothing to do:
+//! a number that is changed in the code, or an action that is left out there, fails here, though definitions cite both by their
+//! names.
 
 ghost use Rattle.pr_cdb.specs.Ranges.{Fits};
+ghost use Rattle.pr_cdb.specs.Actions.{EachActionIsListed};
 ghost use Rattle.pr_cdb.specs.Codes.{OperationCodesAgree, ServiceActionsAgree, SenseCodesAgree, LengthsAgree};
 
 use crate::command::Command;
@@ -29,4 +31,9 @@ pub fn sense_codes_agree()
 /// The lengths of what is sent and answered are the standards', and there are at most sixteen I_T nexuses.
 pub fn lengths_agree()
     ensures { LengthsAgree }
+{}
+
+/// [`ServiceAction::ALL`](crate::ServiceAction::ALL) has all service actions.
+pub fn each_action_is_listed()
+    ensures { EachActionIsListed }
 {}

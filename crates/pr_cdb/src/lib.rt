@@ -23,7 +23,8 @@ mod writing;
 pub use action::{ActionRow, Direction, Field, ServiceAction};
 pub use command::{Command, Kind};
 pub use laws::{
-    in_range, lengths_agree, operation_codes_agree, sense_codes_agree, service_actions_agree,
+    each_action_is_listed, in_range, lengths_agree, operation_codes_agree, sense_codes_agree,
+    service_actions_agree,
 };
 pub use layout::Layout;
 pub use parameter_data::{capabilities, holder_of, keys_data, keys_of, reservation_data};

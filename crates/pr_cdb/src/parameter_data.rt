@@ -1,7 +1,8 @@
 //! The data that PERSISTENT RESERVE IN returns.
 
 ghost use Rattle.std.specs.Prelude.{◌≡◌, ◌≤◌, Some, length};
-ghost use Rattle.pr_cdb.specs.ReplyData.{keys_bytes, keys_in, reservation_bytes, capabilities_bytes, holder, holder_in};
+ghost use Rattle.pr_cdb.specs.ReplyData.{keys_bytes, keys_in, reservation_bytes, capabilities_bytes, holder_in};
+ghost use Rattle.pr_cdb.specs.ReadBack.{holder};
 ghost use Rattle.pr_cdb.specs.inside.KeyWidths.{HasKey};
 
 use crate::codes::{

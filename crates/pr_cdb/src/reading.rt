@@ -3,7 +3,7 @@
 ghost use Rattle.std.specs.Prelude.{◌≡◌, ◌+◌, ◌%◌, ◌≤◌, ◌≢◌, List, ℕ, length, slice_index};
 ghost use Rattle.pr_cdb.specs.Kinds.{kind_of_code};
 ghost use Rattle.pr_cdb.specs.Bytes.{be16, be32, be64};
-ghost use Rattle.pr_cdb.specs.Requests.{request_of, named_command, length_of, kind_of_byte, has_refused_flag, reserve_in, reserve_out, AreBytes};
+ghost use Rattle.pr_cdb.specs.Requests.{request_of, named_command, length_of, kind_of_byte, has_refused_flag, reserve_in_command, reserve_out_command, AreBytes};
 ghost use Rattle.pr_cdb.specs.Ranges.{FitsWhereRead};
 
 use crate::codes::{
@@ -127,7 +127,7 @@ fn reserve_in(cdb: &[u8], params: &[u8]) -> Result<Request, Bad>
 // The command of the fields of PERSISTENT RESERVE IN.
 fn named_in(cdb: &[u8]) -> Option<Command>
     requires { TEN_BYTE_CDB ≤ length cdb.now }
-    ensures { result ≡ reserve_in (slice_index cdb.now 1 % 32) (be16 cdb.now 7) }
+    ensures { result ≡ reserve_in_command (slice_index cdb.now 1 % 32) (be16 cdb.now 7) }
 {
     service_action_in(cdb[1] & 0x1f, allocation_length(cdb))
 }
@@ -189,7 +189,7 @@ fn key_at(params: &[u8], place: usize) -> u64
 
 /// The service action of PERSISTENT RESERVE IN with this number, if there is one, over its allocation length.
 pub fn service_action_in(action: u8, alloc: u16) -> Option<Command>
-    ensures { result ≡ reserve_in action alloc }
+    ensures { result ≡ reserve_in_command action alloc }
 {
     match action {
         READ_KEYS => Some(Command::ReadKeys { alloc }),
@@ -201,9 +201,9 @@ pub fn service_action_in(action: u8, alloc: u16) -> Option<Command>
 
 /// The service action of PERSISTENT RESERVE OUT with this number, if there is one, over its type and its keys. RESERVE
 /// and RELEASE need a type.
-#[tactic(auto, unfolding(crate::specs::Requests::reserve_out))]
+#[tactic(auto, unfolding(crate::specs::Requests::reserve_out_command))]
 pub fn service_action_out(action: u8, kind: Option<Kind>, rk: u64, sark: u64) -> Option<Command>
-    ensures { result ≡ reserve_out action kind rk sark }
+    ensures { result ≡ reserve_out_command action kind rk sark }
 {
     match action {
         REGISTER => Some(Command::Register { rk, sark }),

@@ -1,7 +1,8 @@
 //! Sense data in fixed format.
 
 ghost use Rattle.std.specs.Prelude.{◌≡◌, ◌<◌, Some};
-ghost use Rattle.pr_cdb.specs.ReplyData.{sense_bytes, sense_in};
+ghost use Rattle.pr_cdb.specs.ReplyData.{sense_bytes};
+ghost use Rattle.pr_cdb.specs.ReadBack.{sense_in};
 
 use crate::codes::{ADDITIONAL_SENSE_LENGTH, FIXED_FORMAT, FIXED_SENSE_LENGTH};
 use crate::reply::Sense;
@@ -31,7 +32,7 @@ fn sense_written(sense: &Sense) -> [u8; FIXED_SENSE_LENGTH]
 
 /// What sense data in fixed format reports: `None` where fewer than 14 bytes are there, or the low seven
 /// bits of the first are not 70h (SPC-4, 'Fixed format sense data').
-#[tactic(auto, unfolding(crate::specs::ReplyData::sense_in))]
+#[tactic(auto, unfolding(crate::specs::ReadBack::sense_in))]
 pub fn decode_sense(bytes: &[u8]) -> Option<Sense>
     ensures { result ≡ sense_in bytes.now }
 {

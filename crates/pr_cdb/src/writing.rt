@@ -3,7 +3,8 @@
 ghost use Rattle.std.specs.Prelude.{◌≡◌, length, take};
 ghost use Rattle.pr_cdb.specs.Requests.{plain_request, request_of_wire};
 ghost use Rattle.pr_cdb.specs.Ranges.{Fits};
-ghost use Rattle.pr_cdb.specs.Spelling.{spelling, laid_out, layout_codes, BeginsWithCodes, kind_byte, six, transfer, reserve_in, reserve_out};
+ghost use Rattle.pr_cdb.specs.Spelling.{spelling, laid_out, kind_byte, six, transfer, reserve_in, reserve_out};
+ghost use Rattle.pr_cdb.specs.CommandCodes.{layout_codes, BeginsWithCodes};
 
 use crate::codes::{
     FIXED_SENSE_LENGTH, PARAMETER_LIST_LENGTH, PERSISTENT_RESERVE_IN, PERSISTENT_RESERVE_OUT,

@@ -5,7 +5,7 @@ use Rattle.std.specs.List.{list_all}
 use Rattle.pr_cdb.specs.declared.command.Kind.{Kind}
 use Rattle.pr_cdb.specs.declared.reply.Sense.{Sense}
 use Rattle.pr_cdb.specs.Kinds.{kind_of_code}
-use Rattle.pr_attention.specs.Attentions.{attention_with}
+use Rattle.pr_attention.specs.CodeSets.{attention_with}
 use Rattle.pr_attention.specs.declared.attention.Attention.{Attention}
 use Rattle.pr_script.specs.Chain.{◌>>=◌}
 use Rattle.pr_script.specs.Digits.{digit_value, digit_of, byte_of}

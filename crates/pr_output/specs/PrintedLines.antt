@@ -6,7 +6,7 @@ use Rattle.std.specs.Fmt.{digits, digit_glyph}
 use Rattle.std.specs.Int.{w32, to_be_bytes}
 use Rattle.pr_cdb.specs.declared.command.Kind.{Kind}
 use Rattle.pr_cdb.specs.declared.reply.Sense.{Sense}
-use Rattle.pr_cdb.specs.Kinds.{code_of}
+use Rattle.pr_cdb.specs.Kinds.{type_code}
 use Rattle.pr_script.specs.declared.landing.Class.{Class}
 use Rattle.pr_script.specs.declared.landing.Class.TheVariants as class
 
@@ -48,7 +48,7 @@ registration_word name key = name ++ (codes "=" ++ key_or_dash key)
 
 -- as `5:a`
 abbrev pub holder_word : Kind → List ℕ → List ℕ
-holder_word kind name = decimal (code_of kind) ++ (codes ":" ++ name)
+holder_word kind name = decimal (type_code kind) ++ (codes ":" ++ name)
 
 -- the options of a command, as `--param-rk=a1`, `--param-sark=b2` and `--prout-type=5`
 abbrev pub reservation_key_word : ℕ → List ℕ
@@ -58,7 +58,7 @@ abbrev pub service_action_key_word : ℕ → List ℕ
 service_action_key_word key = codes "--param-sark=" ++ key_word key
 
 abbrev pub type_word : Kind → List ℕ
-type_word kind = codes "--prout-type=" ++ decimal (code_of kind)
+type_word kind = codes "--prout-type=" ++ decimal (type_code kind)
 
 -- as `6/2a/05`
 abbrev pub sense_word : Sense → List ℕ

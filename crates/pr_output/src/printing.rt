@@ -2,7 +2,7 @@
 
 ghost use Rattle.std.specs.Prelude.{◌++◌, ◌<◌, ◌≡◌, codes, false};
 ghost use Rattle.std.specs.Fmt.{decimal, digits, digit_glyph};
-ghost use Rattle.pr_cdb.specs.Kinds.{code_of};
+ghost use Rattle.pr_cdb.specs.Kinds.{type_code};
 ghost use Rattle.pr_output.specs.Written.{Writes};
 ghost use Rattle.pr_output.specs.PrintedLines.{attention_word, attentions_word, class_word, holder_word, key_or_dash, more_attentions_word, pair, pairs, pairs_or_dash, registration_word, reservation_key_word, sense_word, service_action_key_word, joined_by_spaces, type_word};
 ghost use Rattle.pr_output.specs.Printed.{printed_word, printed_words, printed_line};
@@ -140,7 +140,7 @@ fn put_holder<W: Write>(writer: &mut W, kind: Kind, name: &[u8]) -> Result<(), W
 }
 
 fn put_kind<W: Write>(writer: &mut W, kind: Kind) -> Result<(), WriteFault>
-    ensures { Writes W.Write writer (decimal (code_of kind)) result }
+    ensures { Writes W.Write writer (decimal (type_code kind)) result }
 {
     put_number(writer, u64::from(kind.code()))
 }

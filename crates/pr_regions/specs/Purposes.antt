@@ -8,7 +8,8 @@ use Rattle.pr_unit.specs.declared.demand.Demand.{Demand}
 use Rattle.pr_unit.specs.declared.demand.Demand.TheVariants.{Look, Read, Write, Register, Unregister, Reserve, Release, Clear, PreemptAll, Preempt}
 use Rattle.pr_script.specs.Grammar.{is_declared}
 use Rattle.pr_roles.specs.declared.limits.TheConstants.{MOST_KEYS}
-use Rattle.pr_unit.specs.Demands.{Asked, demand_of, named}
+use Rattle.pr_unit.specs.Demands.{Asked, demand_of}
+use Rattle.pr_unit.specs.NamedKeys.{named}
 
 -- its key is the number of a declared one, and a PREEMPT has a type
 abbrev pub Purpose : Type 0

@@ -9,7 +9,8 @@ use Rattle.pr_registry.specs.declared.held.Held.TheVariants.{One, All}
 use Rattle.pr_registry.specs.Registrations.{key_of}
 use Rattle.pr_unit.specs.UnitStates.{UnitState, IsWellFormed, effect}
 use Rattle.pr_unit.specs.Conduct.{command_conflicts, command_fault}
-use Rattle.pr_unit.specs.Demands.{is_refused, named}
+use Rattle.pr_unit.specs.Demands.{is_not_admitted}
+use Rattle.pr_unit.specs.NamedKeys.{named}
 use Rattle.pr_roles.specs.declared.limits.TheConstants.{MOST_KEYS}
 use Rattle.pr_sets.specs.declared.bit_set.BitSet.{BitSet}
 use Rattle.pr_sets.specs.BitSets.{has}
@@ -47,7 +48,7 @@ pub record Meets (s : Scope) (asked : Purpose) (reserved : Option Held) (sender 
   pub held : u.registry.held ≡ reserved
   pub standing : (r : ℕ) → IsSo s u (Registration sender r) → standing_of asked r ≡ stands
   pub purpose : purpose_of s.keys c ≡ Some asked
-  pub accepted : is_refused (key_of u.registry sender) c ≡ false
+  pub accepted : is_not_admitted (key_of u.registry sender) c ≡ false
 
 -- ---- which states are in a region
 

@@ -5,7 +5,9 @@ pub use Rattle.std.proofs.lemmas.Bool.Decides.{nat_tests}
 pub use Rattle.pr_cdb.specs.declared.codes.TheConstants.{MOST_NEXUSES}
 pub use Rattle.pr_registry.specs.Changes.{preempt_case, removed_by_preempt}
 pub use Rattle.pr_registry.specs.Hosts.{Hosts, Keys, nobody, just, is_key, is_empty}
-unfoldable pub use Rattle.pr_registry.specs.Hosts.{hosts_in, hosts_with, map_where}
-pub use Rattle.pr_registry.specs.Registrations.{State, is_registered, IsWellFormed, table_keys}
+unfoldable pub use Rattle.pr_registry.specs.Hosts.{hosts_in, hosts_with}
+pub use Rattle.pr_registry.specs.Registrations.{State, is_registered, IsWellFormed}
+pub use Rattle.pr_registry.specs.Tables.{table_keys}
+unfoldable pub use Rattle.pr_registry.specs.Tables.{map_where}
 unfoldable pub use Rattle.pr_registry.specs.inside.HostBits.{hosts_where}
 pub use Rattle.pr_registry.specs.inside.TableStates.{state_of}

@@ -3,15 +3,15 @@
 -- 'Unregistering', 'Releasing', 'Preempting' and 'Clearing'). The attentions are named by their
 -- qualifier under the additional sense code 2Ah: 03h reservations preempted, 04h reservations released,
 -- 05h registrations preempted.
-use Rattle.std.specs.Prelude.{ℕ, ◌==◌, ◌&&◌, not, Bool, true, false, IsTrue, if◌then◌else◌, Option, Some, None, is_some}
+use Rattle.std.specs.Prelude.{ℕ, ◌==◌, ◌&&◌, not, Bool, true, false, if◌then◌else◌, Option, Some, None}
 use Rattle.std.specs.FinSet as set
 use Rattle.std.specs.FinMap as map
 use Rattle.pr_cdb.specs.declared.command.Kind.{Kind}
-use Rattle.pr_cdb.specs.Kinds.{code_of}
+use Rattle.pr_cdb.specs.Kinds.{type_code}
 use Rattle.pr_registry.specs.declared.held.Held.{Held}
 use Rattle.pr_registry.specs.declared.held.Held.TheVariants.{One, All}
 use Rattle.pr_registry.specs.declared.change.Change.{Change}
-use Rattle.pr_registry.specs.Hosts.{Hosts, Keys, nobody, just, is_key, has_no_registrant, hosts_in, hosts_with}
+use Rattle.pr_registry.specs.Hosts.{Hosts, Keys, nobody, just, is_key, hosts_in, hosts_with}
 use Rattle.pr_registry.specs.Registrations.{State, registrants, others, is_holder, holds_alone, is_for_registrants, kind_of}
 
 abbrev pub no_change : Change
@@ -19,7 +19,7 @@ no_change = record { removed = nobody; told_03 = nobody; told_04 = nobody; told_
 
 -- the two types are one
 abbrev pub is_kind : Kind → Kind → Bool
-is_kind s t = code_of s == code_of t
+is_kind s t = type_code s == type_code t
 
 -- the reservation is of a type that tells the registrants when it is lost
 abbrev pub is_told_of_loss : Option Held → Bool
@@ -81,15 +81,6 @@ abbrev pub is_replacing : Case → Bool
 is_replacing ReplacesAll = true
 is_replacing (ReplacesHolder t) = true
 is_replacing RemovesKey = false
-
--- The key picks out registrations: it is some host's, or zero where all registrants hold. A PREEMPT with
--- any other key does not end GOOD.
-abbrev pub picks_registrations : Keys → Option Held → ℕ → Bool
-picks_registrations keys held sark = if sark == 0 then is_held_by_all held else not (has_no_registrant keys sark)
-
--- A PREEMPT that replaces a reservation has a type: without one it is at fault.
-abbrev pub HasKindIfReplacing : Option Kind → Case → Type 0
-HasKindIfReplacing kind case = IsTrue (is_replacing case) → IsTrue (is_some kind)
 
 -- The sender stays where its own reservation is replaced, and goes where its key is merely removed.
 abbrev pub removed_by_preempt : Keys → ℕ → ℕ → Case → Hosts

@@ -1,6 +1,6 @@
 -- Agrees with docs/MODEL.md, 'Nexuses and registrations'.
 -- Sets of hosts, and registrations as a set of pairs of a host and its key, at most one for a host.
-use Rattle.std.specs.Prelude.{ℕ, zero, suc, Bool, false, not, ◌==◌, Option, Some, None}
+use Rattle.std.specs.Prelude.{ℕ, Bool, false, not, ◌==◌, Option, Some, None}
 use Rattle.std.specs.Ordering.{nat_cmp}
 use Rattle.std.specs.FinSet as set
 use Rattle.std.specs.FinMap as map
@@ -41,13 +41,3 @@ without keys removed = map.retain_keys keys (λ h. not (set.contains removed h))
 -- no host has a key
 abbrev pub is_empty : Keys → Bool
 is_empty keys = map.len keys == 0
-
--- h has this key, if it is one
-abbrev pub with_pair : Keys → ℕ → Option ℕ → Keys
-with_pair keys h None = keys
-with_pair keys h (Some k) = map.insert keys h k
-
--- the pairs of each host below n that the table gives a key
-unfoldable pub map_where : ℕ → (ℕ → Option ℕ) → Keys
-map_where zero f = map.empty
-map_where (suc n) f = with_pair (map_where n f) n (f n)

@@ -1,5 +1,7 @@
 pub mod Hosts
 pub mod Registrations
+pub mod Tables
 pub mod Changes
 pub mod Effects
+pub mod Premises
 pub mod inside

@@ -1,7 +1,7 @@
 -- Agrees with SPC-4, 'Persistent reservations', 'Persistent reservation holder'; docs/MODEL.md, 'Well formed states'.
 -- What a logical unit keeps of persistent reservations (SPC-4, 'Reservations' and 'Persistent
 -- reservations'): who is registered with which key, the reservation, and PRGENERATION.
-use Rattle.std.specs.Prelude.{◌≡◌, ℕ, ◌<◌, ◌≤◌, ◌^◌, Bool, true, false, ◌==◌, IsTrue, List, length, Option, Some, None, slice_index_or, if◌then◌else◌}
+use Rattle.std.specs.Prelude.{◌≡◌, ℕ, ◌<◌, ◌≤◌, ◌^◌, Bool, true, false, ◌==◌, IsTrue, Option, Some, None, if◌then◌else◌}
 use Rattle.std.specs.FinSet as set
 use Rattle.std.specs.FinMap as map
 use Rattle.pr_cdb.specs.declared.codes.TheConstants.{MOST_NEXUSES}
@@ -9,7 +9,7 @@ use Rattle.pr_cdb.specs.declared.command.Kind.{Kind}
 use Rattle.pr_cdb.specs.declared.command.Kind.TheVariants.{WriteExclusive, ExclusiveAccess, WriteExclusiveRegistrantsOnly, ExclusiveAccessRegistrantsOnly, WriteExclusiveAllRegistrants, ExclusiveAccessAllRegistrants}
 use Rattle.pr_registry.specs.declared.held.Held.{Held}
 use Rattle.pr_registry.specs.declared.held.Held.TheVariants.{One, All}
-use Rattle.pr_registry.specs.Hosts.{Hosts, Keys, hosts_in, is_empty, map_where}
+use Rattle.pr_registry.specs.Hosts.{Hosts, Keys, hosts_in, is_empty}
 
 pub record State : Type 0 where
   pub hosts : ℕ
@@ -71,9 +71,6 @@ is_holder_of keys (Some (All t)) h = map.contains_key keys h
 abbrev pub is_holder : State → ℕ → Bool
 is_holder u h = is_holder_of u.keys u.held h
 
-abbrev pub Holds : State → ℕ → Type 0
-Holds u h = IsTrue (is_holder u h)
-
 -- a single holder is registered, and all registrants are at least one
 abbrev pub HasHolder : Keys → Option Held → Type 0
 HasHolder keys None = Unit {0}
@@ -89,16 +86,3 @@ pub record IsWellFormed (u : State) : Type 0 where
   pub keys : (h k : ℕ) → key_of u h ≡ Some k → (h < u.hosts) × IsKey k
   pub held : HasHolder u.keys u.held
   pub generation : u.generation < 2 ^ 32
-
--- nothing is registered or reserved
-abbrev pub empty_registry : ℕ → State
-empty_registry hosts = record { hosts = hosts; keys = map.empty; held = None; generation = 0 }
-
--- the registrations of a table with a place for each of n hosts
-abbrev pub table_keys : ℕ → List (Option ℕ) → Keys
-table_keys n slots = map_where n (λ h. slice_index_or slots h None)
-
--- the state that a list of each host's key, a reservation and a generation describe
-abbrev pub state_from : List (Option ℕ) → Option Held → ℕ → State
-state_from keys held generation =
-    record { hosts = length keys; keys = table_keys (length keys) keys; held = held; generation = generation }

@@ -1,7 +1,8 @@
 //! The three successful cases of PREEMPT.
 
 ghost use Rattle.std.specs.Prelude.{◌≡◌, ◌<◌, option_map};
-ghost use Rattle.pr_registry.specs.Registrations.{table_keys, new_reservation};
+ghost use Rattle.pr_registry.specs.Registrations.{new_reservation};
+ghost use Rattle.pr_registry.specs.Tables.{table_keys};
 ghost use Rattle.pr_registry.specs.Changes.{preempt_case, is_replacing, removed_by_preempt, is_new_type};
 ghost use Rattle.pr_registry.specs.inside.Cases.{case_of};
 ghost use Rattle.pr_registry.specs.Effects.{held_after_preempt};

@@ -42,9 +42,11 @@ impl Model for Registry {
 }
 
 impl Registry {
-    ghost use Rattle.pr_registry.specs.Registrations.{IsWellFormed, Holds, empty_registry, state_from, key_of, is_registered, others, is_holder};
+    ghost use Rattle.pr_registry.specs.Registrations.{IsWellFormed, key_of, is_registered, others, is_holder};
+    ghost use Rattle.pr_registry.specs.Premises.{Holds, HasKindIfReplacing, picks_registrations};
+    ghost use Rattle.pr_registry.specs.Tables.{empty_registry, state_from};
     ghost use Rattle.pr_registry.specs.Hosts.{has_no_registrant};
-    ghost use Rattle.pr_registry.specs.Changes.{no_change, conflicts_with_reserve, is_held_as, is_held_by_all, is_released, preempt_case, is_replacing, HasKindIfReplacing, change_on_unregister, change_on_release, change_on_clear, change_on_preempt, picks_registrations};
+    ghost use Rattle.pr_registry.specs.Changes.{no_change, conflicts_with_reserve, is_held_as, is_held_by_all, is_released, preempt_case, is_replacing, change_on_unregister, change_on_release, change_on_clear, change_on_preempt};
     ghost use Rattle.pr_registry.specs.inside.Cases.{case_of};
     ghost use Rattle.pr_registry.specs.Effects.{with_registration, without_registration, with_reservation, after_release, after_clear, after_preempt};
 

@@ -4,7 +4,8 @@
 ghost use Rattle.std.specs.Prelude.{◌≡◌, ◌<◌, ◌≤◌, ◌↔◌, ℕ, IsTrue, if◌then◌else◌, None, length, slice_index_or};
 ghost use Rattle.std.specs.FinMap as map;
 ghost use Rattle.pr_registry.specs.Hosts.{just, is_key, hosts_in, hosts_with, has_no_registrant, is_empty, without};
-ghost use Rattle.pr_registry.specs.Registrations.{table_keys, kind_of, is_all, is_for_registrants, new_reservation, holds_alone, is_holder_of, HasHolder};
+ghost use Rattle.pr_registry.specs.Registrations.{kind_of, is_all, is_for_registrants, new_reservation, holds_alone, is_holder_of, HasHolder};
+ghost use Rattle.pr_registry.specs.Tables.{table_keys};
 ghost use Rattle.pr_registry.specs.inside.TableStates.{IsKeyOrNone};
 ghost use Rattle.pr_registry.specs.Changes.{is_kind, is_told_of_loss, is_held_as, is_held_by_all};
 ghost use Rattle.pr_registry.specs.Effects.{held_by_rest};

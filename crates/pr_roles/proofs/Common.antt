@@ -14,7 +14,8 @@ pub use Rattle.pr_cdb.specs.declared.reply.Reply.{Reply}
 pub use Rattle.pr_registry.specs.Registrations.{IsKey}
 pub use Rattle.pr_registry.specs.declared.held.Held.{Held}
 pub use Rattle.pr_registry.specs.declared.held.Held.TheVariants.{One, All}
-pub use Rattle.pr_unit.specs.UnitStates.{UnitState, quiet_unit}
+pub use Rattle.pr_unit.specs.UnitStates.{UnitState}
+pub use Rattle.pr_unit.specs.Tables.{quiet_unit}
 pub use Rattle.pr_roles.specs.FirstStarts.{Starts, first_of, first_key, keys_under, first_under}
 pub use Rattle.pr_roles.specs.Fitting.{are_distinct, Fits}
 pub use Rattle.pr_roles.specs.Scenarios.{Nexus, Scenario, nexus_of, Task, nexus, task}

@@ -1,3 +1,4 @@
+pub mod Clauses
 pub mod FirstStarts
 pub mod Fitting
 pub mod Invariants

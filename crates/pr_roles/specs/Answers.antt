@@ -1,6 +1,6 @@
 -- Agrees with docs/MODEL.md, 'Worlds, events and runs'.
 -- How a command may be answered: by a step of the unit, or by BUSY or TASK SET FULL, in which the unit has no part.
-use Rattle.std.specs.Prelude.{◌≡◌, ℕ, Bool, false, ◌==◌, ◌&&◌, ◌||◌, nat_lt, List, Option, Some, None, is_none, if◌then◌else◌}
+use Rattle.std.specs.Prelude.{◌≡◌, ℕ, Bool, false, ◌==◌, ◌&&◌, ◌||◌, nat_lt, List, Option, Some, None, is_none}
 use Rattle.std.specs.List.{count_by}
 use Rattle.std.specs.Option.{option_map_or}
 use Rattle.pr_cdb.specs.declared.reply.Reply.{Reply}
@@ -23,14 +23,15 @@ status_of how.Plain = None
 status_of how.Busy = Some Busy
 status_of how.Full = Some TaskFull
 
--- answered by such a step of the unit, or refused with this status, which leaves the unit as it is
-abbrev pub StepsOrIsRefused : Option Status → Type 0 → UnitState → Reply → UnitState → Type 0
-StepsOrIsRefused None step u r v = step
-StepsOrIsRefused (Some status) step u r v = (r ≡ refused_with status) × (v ≡ u)
+-- the unit answers, and does not refuse
+abbrev pub is_plain : How → Bool
+is_plain how = is_none (status_of how)
 
--- The request q of host h, answered so: with reply r, and then the state is v.
+-- The request q of host h, answered so: with reply r, and then the state is v. A refusal leaves the unit as it is.
 abbrev pub Answers : How → UnitState → ℕ → Request → Reply → UnitState → Type 0
-Answers how u h q r v = StepsOrIsRefused (status_of how) (Step u h q r v) u r v
+Answers how.Plain u h q r v = Step u h q r v
+Answers how.Busy u h q r v = (r ≡ refused_with Busy) × (v ≡ u)
+Answers how.Full u h q r v = (r ≡ refused_with TaskFull) × (v ≡ u)
 
 -- the most refusals of this kind that are declared for a nexus
 abbrev pub most_of : How → Nexus → ℕ
@@ -58,8 +59,4 @@ refusals_by history h how = count_by (is_refused h how) history
 
 -- h may still be answered so: by the unit always, and refused no more often than is declared
 abbrev pub may_come : Scenario → List Item → ℕ → How → Bool
-may_come s history h how = is_none (status_of how) || nat_lt (refusals_by history h how) (most_refusals s h how)
-
--- as is asked for, where that may still come, else by the unit
-abbrev pub how_now : Scenario → List Item → ℕ → How → How
-how_now s history h wanted = if may_come s history h wanted then wanted else how.Plain
+may_come s history h how = is_plain how || nat_lt (refusals_by history h how) (most_refusals s h how)

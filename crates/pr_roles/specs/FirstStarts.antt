@@ -5,8 +5,9 @@ use Rattle.std.specs.List.{slice_get, list_any}
 use Rattle.std.specs.Option.{option_or}
 use Rattle.pr_registry.specs.declared.held.Held.{Held}
 use Rattle.pr_registry.specs.declared.held.Held.TheVariants.{One, All}
-use Rattle.pr_registry.specs.Registrations.{state_from}
-use Rattle.pr_unit.specs.UnitStates.{UnitState, quiet_unit}
+use Rattle.pr_registry.specs.Tables.{state_from}
+use Rattle.pr_unit.specs.UnitStates.{UnitState}
+use Rattle.pr_unit.specs.Tables.{quiet_unit}
 use Rattle.pr_roles.specs.Scenarios.{Scenario}
 
 -- the alternatives of each nexus

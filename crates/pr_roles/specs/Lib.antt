@@ -12,6 +12,7 @@ pub mod Worlds
 pub mod Items
 pub mod Schedules
 pub mod Safety
+pub mod LegalHistories
 pub mod SafeRuns
 pub mod Breaches
 pub mod Laws

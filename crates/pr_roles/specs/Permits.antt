@@ -8,7 +8,7 @@ use Rattle.pr_cdb.specs.declared.command.Command.{Command}
 use Rattle.pr_cdb.specs.declared.command.Command.TheVariants as command
 use Rattle.pr_cdb.specs.declared.wire.Request.{Request}
 use Rattle.pr_cdb.specs.declared.wire.Request.TheVariants.{Plain, Faulty}
-use Rattle.pr_cdb.specs.Kinds.{code_of}
+use Rattle.pr_cdb.specs.Kinds.{type_code}
 use Rattle.pr_cdb.specs.Spelling.{operation_code}
 use Rattle.pr_registry.specs.Registrations.{State, is_registered, is_holder}
 use Rattle.pr_roles.specs.declared.role.Action.{Action}
@@ -34,21 +34,24 @@ action_of (command.Clear rk) = Some action.Clear
 action_of (command.Preempt rk sark kind) = option_map (λ t. action.Preempt sark t) kind
 action_of (command.PreemptAbort rk sark kind) = option_map (λ t. action.Preempt sark t) kind
 
--- An action as numbers, by which actions are told apart: its code, its key and the code of its type. To unregister is to register the
--- key zero.
+-- An action as numbers, by which actions are told apart: its service action or, of READ (10) and WRITE (10), an operation code
+-- that is too large for one; its key; and the code of its type. To unregister is to register the key zero.
 abbrev pub numbers : Action → List ℕ
 numbers (action.Register key) = REGISTER ∷ key ∷ []
 numbers action.Unregister = REGISTER ∷ 0 ∷ []
-numbers (action.Reserve kind) = RESERVE ∷ code_of kind ∷ []
+numbers (action.Reserve kind) = RESERVE ∷ type_code kind ∷ []
 numbers action.Release = RELEASE ∷ []
 numbers action.Clear = CLEAR ∷ []
-numbers (action.Preempt key kind) = PREEMPT ∷ key ∷ code_of kind ∷ []
+numbers (action.Preempt key kind) = PREEMPT ∷ key ∷ type_code kind ∷ []
 numbers action.Read = READ_10 ∷ []
 numbers action.Write = WRITE_10 ∷ []
 
+abbrev pub same_numbers : List ℕ → List ℕ → Bool
+same_numbers = bytes_eq
+
 -- the action names this command
 abbrev pub names : Action → Command → Bool
-names a c = option_map_or (λ named. bytes_eq (numbers named) (numbers a)) (action_of c) false
+names a c = option_map_or (λ named. same_numbers (numbers named) (numbers a)) (action_of c) false
 
 -- the condition, if there is one, holds of the sender in this state
 abbrev pub holds : Option Condition → State → ℕ → Bool

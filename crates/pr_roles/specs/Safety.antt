@@ -1,11 +1,10 @@
 -- Agrees with docs/MODEL.md, 'Safe scenarios and legal histories'.
--- When a scenario is safe, and which histories are legal.
+-- When a scenario is safe.
 use Rattle.std.specs.Prelude.{◌≡◌, ℕ, ◌≤◌, true, false, IsTrue, List, Option, Some, None}
 use Rattle.pr_cdb.specs.declared.wire.Request.TheVariants.{Plain}
 use Rattle.pr_unit.specs.UnitStates.{UnitState}
 use Rattle.pr_unit.specs.Replies.{is_good}
 use Rattle.pr_roles.specs.declared.how.How.{How}
-use Rattle.pr_roles.specs.declared.item.Item.{Item}
 use Rattle.pr_roles.specs.Permits.{is_permitted}
 use Rattle.pr_roles.specs.Scenarios.{Scenario, Task, Scripted, Planned, role, task}
 use Rattle.pr_roles.specs.Starts.{IsAllowedStart}
@@ -29,7 +28,3 @@ unfoldable pub IsSafe : Scenario → Type 0
 IsSafe s =
     (u : UnitState) → IsAllowedStart s u → (es : List Event) (w : World) → Run s (world_from s u) es w
     → (h : ℕ) → (is_trapped (control w h) ≡ false) × KeepsBudgetBy (task s h) w h × KeepsRole s w h
-
--- the history is that of some run from this state
-abbrev pub IsLegal : Scenario → UnitState → List Item → Type 0
-IsLegal s u history = (es : List Event) × (w : World) × Run s (world_from s u) es w × (w.history ≡ history)

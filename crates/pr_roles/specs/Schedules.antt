@@ -1,22 +1,26 @@
 -- Agrees with docs/FORMATS.md, 'Replaying'.
 -- Runs in which each turn belongs to a named nexus, or is a reset of the unit.
-use Rattle.std.specs.Prelude.{◌≡◌, ℕ, Bool, true, false, ◌&&◌, not, if◌then◌else◌, List, [], ◌∷◌, Option, Some, None, is_none, map, slice_set}
+use Rattle.std.specs.Prelude.{◌≡◌, ℕ, Bool, true, false, ◌&&◌, not, if◌then◌else◌, List, [], ◌∷◌, Option, Some, None, map, slice_set}
 use Rattle.std.specs.List.{slice_get}
 use Rattle.std.specs.Option.{option_map_or}
 use Rattle.pr_cdb.specs.declared.command.Command.{Command}
 use Rattle.pr_cdb.specs.declared.reply.Reply.{Reply}
+use Rattle.pr_cdb.specs.declared.reply.Status.TheVariants.{Busy, TaskFull}
 use Rattle.pr_cdb.specs.declared.wire.Request.{Request}
 use Rattle.pr_cdb.specs.declared.wire.Request.TheVariants.{Plain}
 use Rattle.pr_cdb.specs.Spelling.{spelling}
 use Rattle.pr_unit.specs.UnitStates.{UnitState}
+use Rattle.pr_unit.specs.Replies.{refused_with}
 use Rattle.pr_unit.specs.Steps.{decision}
 use Rattle.pr_unit.specs.TakenSteps.{TakenStep, ends_good}
 use Rattle.pr_script.specs.Scripts.{Standing, ready, stopped}
 use Rattle.pr_roles.specs.declared.role.Clause.{Clause}
 use Rattle.pr_roles.specs.declared.how.How.{How}
+use Rattle.pr_roles.specs.declared.how.How.TheVariants as how
 use Rattle.pr_roles.specs.declared.step.Step.{Step}
 use Rattle.pr_roles.specs.declared.step.Step.TheVariants as step
-use Rattle.pr_roles.specs.Answers.{status_of, StepsOrIsRefused, how_now}
+use Rattle.pr_roles.specs.declared.item.Item.{Item}
+use Rattle.pr_roles.specs.Answers.{is_plain, may_come}
 use Rattle.pr_roles.specs.Permits.{is_permitted}
 use Rattle.pr_roles.specs.Scenarios.{Scenario, Task, Scripted, Planned, role, task}
 use Rattle.pr_roles.specs.Worlds.{World, control, standing_of, is_guest, after, after_reset, may_reset, world_from}
@@ -31,7 +35,9 @@ plan x g = option_map_or (λ p. p) (slice_get x.plans g) []
 
 -- The unit answers a request so: where it may choose, it reports the lowest code.
 abbrev pub TakenAnswer : How → UnitState → ℕ → Request → Reply → UnitState → Type 0
-TakenAnswer how u h q r v = StepsOrIsRefused (status_of how) (TakenStep u h q r v) u r v
+TakenAnswer how.Plain u h q r v = TakenStep u h q r v
+TakenAnswer how.Busy u h q r v = (r ≡ refused_with Busy) × (v ≡ u)
+TakenAnswer how.Full u h q r v = (r ≡ refused_with TaskFull) × (v ≡ u)
 
 -- the command is answered so
 pub record Sends (w : World) (h at : ℕ) (command : Command) (how : How) (v : World) : Type 0 where
@@ -59,7 +65,7 @@ is_held_back clauses u g c = ends_good (decision u g (Plain c)) (Plain c) && not
 
 -- what is refused is not held back
 abbrev pub is_passed_over : How → List Clause → UnitState → ℕ → Command → Bool
-is_passed_over how clauses u g c = is_none (status_of how) && is_held_back clauses u g c
+is_passed_over how clauses u g c = is_plain how && is_held_back clauses u g c
 
 -- a guest passes over what is held back
 abbrev pub passes_over : Scenario → Schedule → ℕ → How → Command → Bool
@@ -73,6 +79,10 @@ pub data TurnAs (s : Scenario) (x : Schedule) (h : ℕ) (how : How) (y : Schedul
   passes : (line : ℕ) (c : Command) (left : List Command) → next_of s x h ≡ Some (line, c, left) → passes_over s x h how c ≡ true
       → y ≡ record x { plans = slice_set x.plans h left } → TurnAs s x h how y
   rests : next_of s x h ≡ None → y ≡ x → TurnAs s x h how y
+
+-- as is asked for, where that may still come, else by the unit
+abbrev pub how_now : Scenario → List Item → ℕ → How → How
+how_now s history h wanted = if may_come s history h wanted then wanted else how.Plain
 
 -- the turn of h, answered so where that may still come
 abbrev pub Turn : Scenario → Schedule → ℕ → How → Schedule → Type 0

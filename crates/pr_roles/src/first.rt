@@ -3,8 +3,9 @@
 ghost use Rattle.std.specs.Prelude.{◌≡◌, ◌↔◌, ◌<◌, ◌≤◌, ◌^◌, Some, IsTrue, IsSome, IfSome, slice_set, length, is_some, map, option_map, position};
 ghost use Rattle.std.specs.List.{list_any};
 ghost use Rattle.pr_cdb.specs.declared.codes.TheConstants.{MOST_NEXUSES};
-ghost use Rattle.pr_registry.specs.Registrations.{IsWellFormed, state_from};
-ghost use Rattle.pr_unit.specs.UnitStates.{quiet_unit};
+ghost use Rattle.pr_registry.specs.Registrations.{IsWellFormed};
+ghost use Rattle.pr_registry.specs.Tables.{state_from};
+ghost use Rattle.pr_unit.specs.Tables.{quiet_unit};
 ghost use Rattle.pr_roles.specs.Scenarios.{scenario_of};
 ghost use Rattle.pr_roles.specs.Fitting.{Fits};
 ghost use Rattle.pr_roles.specs.Starts.{CanStart, IsAllowedStart};

@@ -4,7 +4,8 @@ pub use Rattle.pr_cdb.specs.declared.command.Command.{Command}
 pub use Rattle.pr_script.specs.Costs.{cost_of, cost_of_all, greatest}
 pub use Rattle.pr_script.specs.Depths.{depth_of, depth_of_all, depth_of_arms}
 pub use Rattle.pr_script.specs.Grammar.{statement_fits, statements_fit, arms_fit, count_in_arms, lines_of_all, lines_of_arms}
-pub use Rattle.pr_script.specs.Scripts.{Stmt, sends, repeats, breaks, Stmts, none, more, Arms, no_arm, arm, statement, mark, Configuration, before, turn, past_mark, becomes, is_ready}
+pub use Rattle.pr_script.specs.Scripts.{Stmt, sends, repeats, breaks, Stmts, none, more, Arms, no_arm, arm, statement, mark, Configuration, before, turn, past_mark, becomes}
+pub use Rattle.pr_script.specs.Traps.{is_ready}
 unfoldable pub use Rattle.pr_script.specs.Scripts.{settled_form}
 pub use Rattle.pr_script.specs.Takes.{matches}
 pub use Rattle.pr_script.specs.Trees.{statement_of, statements_in, script_of}

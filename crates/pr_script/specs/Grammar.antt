@@ -5,7 +5,7 @@ use Rattle.std.specs.List.{list_any}
 use Rattle.pr_cdb.specs.declared.codes.TheConstants.{PERSISTENT_RESERVE_IN, READ_KEYS, READ_RESERVATION}
 use Rattle.pr_cdb.specs.declared.command.Command.{Command}
 use Rattle.pr_cdb.specs.declared.command.Command.TheVariants as command
-use Rattle.pr_cdb.specs.Spelling.{command_codes}
+use Rattle.pr_cdb.specs.CommandCodes.{command_codes}
 use Rattle.pr_script.specs.declared.grammar.TheConstants.{WRITTEN_LENGTH}
 use Rattle.pr_script.specs.declared.script.Test.{Test}
 use Rattle.pr_script.specs.declared.script.Test.TheVariants as test

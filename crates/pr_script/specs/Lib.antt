@@ -1,6 +1,7 @@
 pub mod Scripts
 pub mod Trees
 pub mod Takes
+pub mod Traps
 pub mod Programs
 pub mod Positions
 pub mod Costs

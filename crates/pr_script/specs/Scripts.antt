@@ -1,6 +1,6 @@
 -- Agrees with docs/MODEL.md, 'Scripts'.
 -- Scripts as trees, and what is still to do of one.
-use Rattle.std.specs.Prelude.{ℕ, zero, suc, ◌+◌, ◌*◌, List, [], ◌∷◌, Option, Some, None, Bool, true, false, IsTrue, drop, codes}
+use Rattle.std.specs.Prelude.{ℕ, zero, suc, ◌+◌, ◌*◌, List, [], ◌∷◌, Option, Some, None, drop, codes}
 use Rattle.pr_cdb.specs.declared.command.Command.{Command}
 use Rattle.pr_script.specs.declared.script.Test.{Test}
 
@@ -92,18 +92,6 @@ standing_of_items ((statement (sends n c a)) ∷ l) = Some (ready n c)
 standing_of_items ((statement (repeats n b)) ∷ l) = None
 standing_of_items ((statement breaks) ∷ l) = None
 standing_of_items ((statement (stops w)) ∷ l) = Some (stopped w)
-
--- a send comes first
-abbrev pub is_ready : Configuration → Bool
-is_ready [] = false
-is_ready (mark ∷ l) = false
-is_ready ((statement (sends n c a)) ∷ l) = true
-is_ready ((statement (repeats n b)) ∷ l) = false
-is_ready ((statement breaks) ∷ l) = false
-is_ready ((statement (stops w)) ∷ l) = false
-
-abbrev pub IsReady : Configuration → Type 0
-IsReady l = IsTrue (is_ready l)
 
 -- a script at its beginning
 abbrev pub first_configuration : Stmts → Configuration

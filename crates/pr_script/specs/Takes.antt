@@ -1,6 +1,6 @@
 -- Agrees with docs/MODEL.md, 'Taking a reply'.
 -- Which replies an arm matches, and what a script goes on with after a reply.
-use Rattle.std.specs.Prelude.{◌≡◌, ℕ, Bool, true, false, ◌==◌, ◌&&◌, [], ◌∷◌, Option, Some, None, option_map, if◌then◌else◌}
+use Rattle.std.specs.Prelude.{ℕ, Bool, true, false, ◌==◌, ◌&&◌, [], ◌∷◌, Option, Some, None, option_map, if◌then◌else◌}
 use Rattle.std.specs.List.{list_any}
 use Rattle.pr_cdb.specs.declared.codes.TheConstants.{UNIT_ATTENTION}
 use Rattle.pr_cdb.specs.declared.reply.Sense.{Sense}
@@ -9,7 +9,7 @@ use Rattle.pr_cdb.specs.Statuses.{is_good_status, is_check_status, is_conflict_s
 use Rattle.pr_cdb.specs.ReplyData.{keys_in, holder_in}
 use Rattle.pr_script.specs.declared.script.Test.{Test}
 use Rattle.pr_script.specs.declared.script.Test.TheVariants as test
-use Rattle.pr_script.specs.Scripts.{Stmts, Arms, sends, repeats, breaks, stops, no_arm, arm, statement, mark, Configuration, before, settled_form, IsReady}
+use Rattle.pr_script.specs.Scripts.{Stmts, Arms, sends, repeats, breaks, stops, no_arm, arm, statement, mark, Configuration, before, settled_form}
 
 -- the data of READ RESERVATION has a reservation with this key
 abbrev pub is_held_by : Option (Option (ℕ × ℕ)) → ℕ → Bool
@@ -23,9 +23,9 @@ is_unheld None = false
 is_unheld (Some None) = true
 is_unheld (Some (Some held)) = false
 
-abbrev pub is_attention : Option Sense → Bool
-is_attention None = false
-is_attention (Some sense) = sense.key == UNIT_ATTENTION
+abbrev pub is_unit_attention : Option Sense → Bool
+is_unit_attention None = false
+is_unit_attention (Some sense) = sense.key == UNIT_ATTENTION
 
 abbrev pub is_sense : Option Sense → Sense → Bool
 is_sense None wanted = false
@@ -39,7 +39,7 @@ matches test.GoodUnheld r = is_good_status r.status && is_unheld (holder_in r.by
 matches test.Conflict r = is_conflict_status r.status
 matches test.Busy r = is_busy_status r.status
 matches test.Full r = is_full_status r.status
-matches test.Attention r = is_check_status r.status && is_attention r.sense
+matches test.Attention r = is_check_status r.status && is_unit_attention r.sense
 matches (test.Sense wanted) r = is_check_status r.status && is_sense r.sense wanted
 
 -- the body of the first arm that matches, from the top
@@ -56,7 +56,3 @@ take ((statement (sends n c a)) ∷ l) r = option_map (λ body. settled_form (be
 take ((statement (repeats n b)) ∷ l) r = None
 take ((statement breaks) ∷ l) r = None
 take ((statement (stops w)) ∷ l) r = None
-
--- a script that is ready and has no arm for the reply
-abbrev pub Traps : Configuration → Reply → Type 0
-Traps l r = IsReady l × (take l r ≡ None)

@@ -8,7 +8,8 @@ use Rattle.pr_roles.specs.declared.entry.Entry.{Entry}
 use Rattle.pr_roles.specs.declared.item.Item.{Item}
 use Rattle.pr_roles.specs.declared.item.Item.TheVariants.{Sent, Reset}
 use Rattle.pr_roles.specs.Scenarios.{Scenario}
-use Rattle.pr_roles.specs.Safety.{IsSafe, IsLegal}
+use Rattle.pr_roles.specs.Safety.{IsSafe}
+use Rattle.pr_roles.specs.LegalHistories.{IsLegal}
 use Rattle.pr_roles.specs.Items.{entry_by}
 use Rattle.pr_roles.specs.FirstStarts.{first_state}
 use Rattle.pr_world.specs.Progress.{Progress}

@@ -7,7 +7,7 @@ use Rattle.pr_roles.specs.declared.step.Step.{Step}
 use Rattle.pr_roles.specs.declared.entry.Entry.{Entry}
 use Rattle.pr_roles.specs.declared.item.Item.{Item}
 use Rattle.pr_roles.specs.Scenarios.{Scenario, scenario_of}
-use Rattle.pr_roles.specs.Safety.{IsLegal}
+use Rattle.pr_roles.specs.LegalHistories.{IsLegal}
 use Rattle.pr_roles.specs.Schedules.{Schedule}
 use Rattle.pr_roles.specs.FirstStarts.{first_state}
 use Rattle.pr_world.specs.Courses.{IsReached}

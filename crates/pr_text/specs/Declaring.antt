@@ -6,7 +6,8 @@ use Rattle.std.specs.List.{slice_get}
 use Rattle.std.specs.FinSet as set
 use Rattle.pr_registry.specs.declared.held.Held.{Held}
 use Rattle.pr_registry.specs.declared.held.Held.TheVariants.{One, All as Everybody}
-use Rattle.pr_attention.specs.Attentions.{Codes, code_of, no_code}
+use Rattle.pr_attention.specs.Attentions.{Codes, code_of}
+use Rattle.pr_attention.specs.CodeSets.{no_code}
 use Rattle.pr_attention.specs.declared.attention.Attention.{Attention}
 use Rattle.pr_script.specs.Grammar.{is_written, is_written_key}
 use Rattle.pr_lines.specs.declared.item.RefusalKind.{RefusalKind}

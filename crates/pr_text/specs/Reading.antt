@@ -1,7 +1,8 @@
 -- Agrees with docs/FORMATS.md, 'Scenario text'.
 -- The scenario that a text is.
 use Rattle.std.specs.Prelude.{◌≡◌, ℕ, List, [], map, Option, unwrap_or, Result, Ok, Err}
-use Rattle.pr_attention.specs.Attentions.{Codes, no_code}
+use Rattle.pr_attention.specs.Attentions.{Codes}
+use Rattle.pr_attention.specs.CodeSets.{no_code}
 use Rattle.pr_roles.specs.declared.role.Clause.{Clause}
 use Rattle.pr_roles.specs.Scenarios.{Scenario, Nexus, Task, Scripted, Planned, scenario_of}
 use Rattle.pr_roles.specs.declared.parts.Parts.{Parts}

@@ -7,7 +7,8 @@ use Rattle.std.specs.Option.{option_map_or}
 use Rattle.pr_registry.specs.declared.held.Held.{Held}
 use Rattle.pr_registry.specs.declared.held.Held.TheVariants.{One, All as Everybody}
 use Rattle.pr_attention.specs.declared.attention.Attention.{Attention}
-use Rattle.pr_attention.specs.Attentions.{Codes, code_of, AreAttentions, each_attention}
+use Rattle.pr_attention.specs.Attentions.{Codes, code_of, each_attention}
+use Rattle.pr_attention.specs.CodeSets.{AreAttentions}
 use Rattle.pr_roles.specs.Scenarios.{Scenario, Nexus, Task, Scripted, Planned}
 use Rattle.pr_roles.specs.Starts.{CanStart}
 use Rattle.pr_roles.specs.Fitting.{Fits}

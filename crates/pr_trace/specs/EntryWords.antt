@@ -8,7 +8,8 @@ use Rattle.pr_cdb.specs.declared.reply.Sense.{Sense}
 use Rattle.pr_cdb.specs.declared.reply.Status.{Status}
 use Rattle.pr_cdb.specs.declared.reply.Status.TheVariants.{Good, CheckCondition, Conflict, Busy, TaskFull}
 use Rattle.pr_cdb.specs.declared.wire.Wire.{Wire}
-use Rattle.pr_cdb.specs.ReplyData.{sense_bytes, sense_in}
+use Rattle.pr_cdb.specs.ReplyData.{sense_bytes}
+use Rattle.pr_cdb.specs.ReadBack.{sense_in}
 use Rattle.pr_cdb.specs.Spelling.{wire_of}
 use Rattle.pr_unit.specs.Replies.{reply_of}
 use Rattle.pr_script.specs.Digits.{byte_of}

@@ -6,7 +6,7 @@ use Rattle.std.specs.Fmt.{decimal}
 use Rattle.pr_cdb.specs.declared.reply.Sense.{Sense}
 use Rattle.pr_cdb.specs.declared.reply.Status.{Status}
 use Rattle.pr_cdb.specs.declared.reply.Status.TheVariants.{Good, CheckCondition, Conflict, Busy, TaskFull}
-use Rattle.pr_cdb.specs.Kinds.{code_of}
+use Rattle.pr_cdb.specs.Kinds.{type_code}
 use Rattle.pr_cdb.specs.ReplyData.{sense_bytes}
 use Rattle.pr_registry.specs.Registrations.{State, key_of}
 use Rattle.pr_registry.specs.declared.held.Held.{Held}
@@ -85,7 +85,7 @@ item_lines others names (i ∷ is) = item_line (others + 1) names i ++ item_line
 abbrev pub held_word : List (List ℕ) → Option Held → List ℕ
 held_word names None = codes "none"
 held_word names (Some (One kind host)) = holder_word kind (name_of names host)
-held_word names (Some (All kind)) = decimal (code_of kind)
+held_word names (Some (All kind)) = decimal (type_code kind)
 
 -- the registrations of the hosts from this number on, whose names these are
 abbrev pub registration_words : State → ℕ → List (List ℕ) → List (List ℕ)

@@ -11,17 +11,21 @@ pub use Rattle.pr_cdb.specs.declared.reply.Sense.{Sense}
 pub use Rattle.pr_cdb.specs.declared.wire.Request.{Request}
 pub use Rattle.pr_cdb.specs.declared.wire.Request.TheVariants.{Plain, Faulty}
 pub use Rattle.pr_cdb.specs.declared.command.Kind.{Kind}
-pub use Rattle.pr_attention.specs.Attentions.{code_of, Codes, no_code, AreAttentions}
+pub use Rattle.pr_attention.specs.Attentions.{code_of, Codes}
+pub use Rattle.pr_attention.specs.CodeSets.{no_code, AreAttentions}
 pub use Rattle.pr_attention.proofs.lemmas.Sets.{contains-no_code}
 pub use Rattle.pr_registry.proofs.lemmas.Sets.{contains-nobody}
 pub use Rattle.pr_registry.specs.Changes.{no_change}
 pub use Rattle.pr_registry.specs.Hosts.{Hosts}
-pub use Rattle.pr_unit.specs.Attentions.{power_on, reservations_preempted, reservations_released, registrations_preempted, Pairs, place, table_pairs}
-unfoldable pub use Rattle.pr_unit.specs.Attentions.{each_with, hosts_below, pairs_where}
+pub use Rattle.pr_unit.specs.Attentions.{power_on, reservations_preempted, reservations_released, registrations_preempted, Pairs}
+pub use Rattle.pr_unit.specs.Tables.{place, table_pairs}
+unfoldable pub use Rattle.pr_unit.specs.Attentions.{each_with, hosts_below}
+unfoldable pub use Rattle.pr_unit.specs.Tables.{pairs_where}
 pub use Rattle.pr_unit.specs.Conduct.{command_fault, conflicts, fault, command_conflicts}
 pub use Rattle.pr_unit.specs.Replies.{good, check, report, data_of, is_request_sense}
 pub use Rattle.pr_unit.specs.Steps.{last_decision, decision, StepBy, Step}
 pub use Rattle.pr_unit.specs.TakenSteps.{ends_good}
-pub use Rattle.pr_unit.specs.UnitStates.{UnitState, unit_of, is_pending, is_any_pending, IsWellFormed, effect, after_report, pending_after}
+pub use Rattle.pr_unit.specs.UnitStates.{UnitState, is_pending, is_any_pending, IsWellFormed, effect, after_report, pending_after}
+pub use Rattle.pr_unit.specs.Tables.{unit_of}
 pub use Rattle.pr_unit.specs.declared.decision.Decision.{Decision}
 pub use Rattle.pr_unit.specs.declared.decision.Decision.TheVariants.{PowerOn, Conflicting, Attention, Done, AtFault}

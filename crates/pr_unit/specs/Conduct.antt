@@ -19,7 +19,7 @@ use Rattle.pr_registry.specs.Effects.{with_registration, without_registration, w
 use Rattle.pr_unit.specs.declared.access.Access.{Access}
 use Rattle.pr_unit.specs.declared.access.Access.TheVariants.{Everybody, Registrants, Holder}
 use Rattle.pr_unit.specs.declared.demand.Demand.TheVariants.{Look, Read, Write, Register, Unregister, Reserve, Release, Clear, PreemptAll, Preempt}
-use Rattle.pr_unit.specs.Demands.{Asked, demand_of, is_refused}
+use Rattle.pr_unit.specs.Demands.{Asked, demand_of, is_not_admitted}
 
 -- ---- who may read and write
 
@@ -82,21 +82,25 @@ pub record Conduct : Type 0 where
   pub kept : Bool
   -- its own fault: CHECK CONDITION
   pub fault : Option Sense
-  -- the state once it has ended GOOD
+  -- The state once it has ended GOOD, and whom it then removes and tells. These two mean nothing where something keeps h from it,
+  -- or where it is at fault.
   pub after : State
-  -- whom it then removes and tells
   pub change : Change
 
 -- it ends GOOD, leaves this state, and tells nobody
 abbrev pub leaves : State → Conduct
 leaves v = record { kept = false; fault = None; after = v; change = no_change }
 
+-- a registrant unregisters
+abbrev pub unregistering : State → ℕ → Conduct
+unregistering u h = record (leaves (without_registration u h)) { change = change_on_unregister u h }
+
 abbrev pub conduct : State → ℕ → Asked → Conduct
 conduct u h Look = leaves u
 conduct u h (Read in_range) = record (leaves u) { kept = access_conflicts u h u.held read_access; fault = range_fault in_range }
 conduct u h (Write in_range) = record (leaves u) { kept = access_conflicts u h u.held write_access; fault = range_fault in_range }
 conduct u h (Register key) = leaves (with_registration u h key)
-conduct u h Unregister = record (leaves (if is_registered u h then without_registration u h else u)) { change = if is_registered u h then change_on_unregister u h else no_change }
+conduct u h Unregister = if is_registered u h then unregistering u h else leaves u
 conduct u h (Reserve kind) = record (leaves (with_reservation u h kind)) { kept = conflicts_with_reserve u h u.held kind }
 conduct u h (Release kind) = record (leaves (after_release u h kind)) { fault = release_fault u h kind; change = change_on_release u h kind }
 conduct u h Clear = record (leaves (after_clear u)) { change = change_on_clear u h }
@@ -111,7 +115,7 @@ conduct u h (Preempt key kind) = record (leaves (after_preempt u h key kind)) {
 
 -- its sender is not admitted, or what stands keeps it from what it asks for
 abbrev pub command_conflicts : State → ℕ → Command → Bool
-command_conflicts u h c = is_refused (key_of u h) c || (conduct u h (demand_of c)).kept
+command_conflicts u h c = is_not_admitted (key_of u h) c || (conduct u h (demand_of c)).kept
 
 abbrev pub command_fault : State → ℕ → Command → Option Sense
 command_fault u h c = (conduct u h (demand_of c)).fault

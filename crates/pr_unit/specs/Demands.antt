@@ -52,25 +52,6 @@ admission_of c = (asks c).0
 abbrev pub demand_of : Command → Asked
 demand_of c = (asks c).1
 
--- the key that it names, if it names one
-abbrev pub named : {K T : Type 0} → Demand K T → Option K
-named Look = None
-named (Read in_range) = None
-named (Write in_range) = None
-named (Register key) = Some key
-named Unregister = None
-named (Reserve kind) = None
-named (Release kind) = None
-named Clear = None
-named (PreemptAll kind) = None
-named (Preempt key kind) = Some key
-
--- the key that is named, if one has to be
-abbrev pub key_of_admission : Admission → Option ℕ
-key_of_admission Open = None
-key_of_admission (OwnOrNone rk) = Some rk
-key_of_admission (Own rk) = Some rk
-
 -- it is neither the key nor, where there is none, zero
 abbrev pub is_wrong_key : Option ℕ → ℕ → Bool
 is_wrong_key None rk = not (rk == 0)
@@ -83,5 +64,5 @@ keeps_out (OwnOrNone rk) key = is_wrong_key key rk
 keeps_out (Own rk) key = not (is_key key rk)
 
 -- so it is with this command
-abbrev pub is_refused : Option ℕ → Command → Bool
-is_refused key c = keeps_out (admission_of c) key
+abbrev pub is_not_admitted : Option ℕ → Command → Bool
+is_not_admitted key c = keeps_out (admission_of c) key

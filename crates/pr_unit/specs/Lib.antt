@@ -1,7 +1,9 @@
 pub mod Attentions
 pub mod Demands
+pub mod NamedKeys
 pub mod Conduct
 pub mod UnitStates
+pub mod Tables
 pub mod Capacity
 pub mod Replies
 pub mod Steps

@@ -1,44 +1,35 @@
 -- Agrees with docs/MODEL.md, 'Well formed states'.
 -- The state of a logical unit: its registrations, reservation and generation, and the pending
 -- attentions of each host.
-use Rattle.std.specs.Prelude.{◌≡◌, ℕ, ◌<◌, Bool, true, IsTrue, List}
+use Rattle.std.specs.Prelude.{◌≡◌, ℕ, ◌<◌, Bool, true, IsTrue}
 use Rattle.std.specs.FinSet as set
 use Rattle.std.specs.List.{list_any}
 use Rattle.pr_cdb.specs.declared.command.Command.{Command}
 use Rattle.pr_registry.specs.declared.change.Change.{Change}
 use Rattle.pr_registry.specs.Hosts.{Hosts}
 use Rattle.pr_registry.specs.Registrations.{State, IsWellFormed as IsWellFormedRegistry}
-use Rattle.pr_attention.specs.Attentions.{Codes}
 use Rattle.pr_unit.specs.Demands.{demand_of}
 use Rattle.pr_unit.specs.Conduct.{conduct}
-use Rattle.pr_unit.specs.Attentions.{Pairs, table_pairs, attentions, is_attention, hosts_below, each_with, power_on, reservations_preempted, reservations_released, registrations_preempted}
+use Rattle.pr_unit.specs.Attentions.{Pairs, attentions, is_attention, hosts_below, each_with, power_on, reservations_preempted, reservations_released, registrations_preempted}
 
 pub record UnitState : Type 0 where
   pub registry : State
   pub pending : Pairs
 
--- the state of a registry and a table of pending attentions
-abbrev pub unit_of : State → List Codes → UnitState
-unit_of registry table = record { registry = registry; pending = table_pairs table }
-
 abbrev pub is_pending : UnitState → ℕ → ℕ → Bool
 is_pending u h code = set.contains u.pending (h, code)
 
 -- one of the four attentions is pending for the host
-abbrev pub has_any : Pairs → ℕ → Bool
-has_any pending h = list_any (λ code. set.contains pending (h, code)) attentions
+abbrev pub has_attention : Pairs → ℕ → Bool
+has_attention pending h = list_any (λ code. set.contains pending (h, code)) attentions
 
 abbrev pub is_any_pending : UnitState → ℕ → Bool
-is_any_pending u h = has_any u.pending h
+is_any_pending u h = has_attention u.pending h
 
 -- the registry is well formed, and what is pending is one of the four attentions of a host that is there
 pub record IsWellFormed (u : UnitState) : Type 0 where
   pub registry : IsWellFormedRegistry u.registry
   pub pending : (h code : ℕ) → is_pending u h code ≡ true → (h < u.registry.hosts) × IsTrue (is_attention code)
-
--- nothing is pending
-abbrev pub quiet_unit : State → UnitState
-quiet_unit registry = record { registry = registry; pending = set.empty }
 
 -- what is pending once a service action has told whom it tells
 abbrev pub pending_after : Pairs → Change → Pairs
@@ -46,8 +37,8 @@ pending_after pending c =
     set.union (set.union (set.union pending (each_with c.told_03 reservations_preempted)) (each_with c.told_04 reservations_released)) (each_with c.told_05 registrations_preempted)
 
 -- the registrations, the reservation and PRGENERATION after a command of h that ends GOOD
-abbrev pub after : State → ℕ → Command → State
-after u h c = (conduct u h (demand_of c)).after
+abbrev pub registry_after : State → ℕ → Command → State
+registry_after u h c = (conduct u h (demand_of c)).after
 
 -- whom it removes and tells
 abbrev pub change : State → ℕ → Command → Change
@@ -55,7 +46,7 @@ change u h c = (conduct u h (demand_of c)).change
 
 -- the state after a command of h that ends GOOD
 abbrev pub effect : UnitState → ℕ → Command → UnitState
-effect u h c = record { registry = after u.registry h c; pending = pending_after u.pending (change u.registry h c) }
+effect u h c = record { registry = registry_after u.registry h c; pending = pending_after u.pending (change u.registry h c) }
 
 -- the state once this code of h has been reported
 abbrev pub after_report : UnitState → ℕ → ℕ → UnitState

@@ -15,6 +15,7 @@ use pr_cdb::{Kind, Sense};
 use pr_registry::{Change, Registry};
 
 /// Whether what stands keeps the host from what it demands.
+#[tactic(auto, using(crate::proofs::lemmas::Demands::unregister_kept))]
 pub(crate) fn is_kept(registry: &Registry, host: u8, demand: Demand<u64, Option<Kind>>) -> bool
     requires { host < registry.now.hosts }
     ensures { result ≡ (conduct registry.now host demand).kept }
@@ -34,6 +35,7 @@ pub(crate) fn is_kept(registry: &Registry, host: u8, demand: Demand<u64, Option<
 }
 
 /// The fault of a demand of the host, from which nothing keeps it.
+#[tactic(auto, using(crate::proofs::lemmas::Demands::unregister_fault))]
 pub(crate) fn fault_of(
     registry: &Registry,
     host: u8,

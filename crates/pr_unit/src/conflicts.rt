@@ -2,7 +2,7 @@
 
 ghost use Rattle.std.specs.Prelude.{◌≡◌, ◌<◌, not};
 ghost use Rattle.pr_registry.specs.Hosts.{is_key};
-ghost use Rattle.pr_unit.specs.Demands.{is_wrong_key, keeps_out, is_refused};
+ghost use Rattle.pr_unit.specs.Demands.{is_wrong_key, keeps_out, is_not_admitted};
 ghost use Rattle.pr_unit.specs.Conduct.{command_conflicts};
 
 use crate::conduct::is_kept;
@@ -15,12 +15,12 @@ pub(crate) fn command_conflicts(registry: &Registry, host: u8, command: Command)
     requires { host < registry.now.hosts }
     ensures { result ≡ command_conflicts registry.now host command }
 {
-    is_refused(registry.key(host), command) || is_kept(registry, host, demand_of(command))
+    is_not_admitted(registry.key(host), command) || is_kept(registry, host, demand_of(command))
 }
 
 /// Whether the command is refused from a sender with this key, if it has one, for the reservation key that it names.
-pub fn is_refused(key: Option<u64>, command: Command) -> bool
-    ensures { result ≡ is_refused key command }
+pub fn is_not_admitted(key: Option<u64>, command: Command) -> bool
+    ensures { result ≡ is_not_admitted key command }
 {
     match admission_of(command) {
         Admission::Open => false,

@@ -1,7 +1,7 @@
 //! What decides how a request ends.
 
 ghost use Rattle.std.specs.Prelude.{◌≡◌, ◌<◌};
-ghost use Rattle.pr_unit.specs.UnitStates.{unit_of};
+ghost use Rattle.pr_unit.specs.Tables.{unit_of};
 ghost use Rattle.pr_unit.specs.Steps.{decision};
 ghost use Rattle.pr_unit.specs.TakenSteps.{ends_good};
 ghost use Rattle.pr_unit.specs.Conduct.{conflicts, fault};

@@ -47,7 +47,7 @@ pub enum Admission {
 
 impl<K: Copy, T: Copy> Demand<K, T> {
     ghost use Rattle.std.specs.Prelude.{◌≡◌};
-    ghost use Rattle.pr_unit.specs.Demands.{named};
+    ghost use Rattle.pr_unit.specs.NamedKeys.{named};
 
     /// The key that it names, if it names one.
     pub fn key(self) -> Option<K>
@@ -69,7 +69,7 @@ impl<K: Copy, T: Copy> Demand<K, T> {
 
 impl Admission {
     ghost use Rattle.std.specs.Prelude.{◌≡◌};
-    ghost use Rattle.pr_unit.specs.Demands.{key_of_admission};
+    ghost use Rattle.pr_unit.specs.NamedKeys.{key_of_admission};
 
     /// The key that is named, if one has to be.
     pub fn key(self) -> Option<u64>

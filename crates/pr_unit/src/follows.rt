@@ -2,7 +2,8 @@
 
 ghost use Rattle.std.specs.Prelude.{◌≡◌, ◌<◌, false, None};
 ghost use Rattle.pr_attention.specs.Attentions.{code_of};
-ghost use Rattle.pr_unit.specs.UnitStates.{IsWellFormed, unit_of};
+ghost use Rattle.pr_unit.specs.UnitStates.{IsWellFormed};
+ghost use Rattle.pr_unit.specs.Tables.{unit_of};
 ghost use Rattle.pr_unit.specs.Conduct.{command_conflicts, command_fault};
 ghost use Rattle.pr_unit.specs.Follows.{IsFollowed};
 ghost use Rattle.pr_unit.specs.inside.Following.{IsReported, IsAnyReported, IsDoneSo};

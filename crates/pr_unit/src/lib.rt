@@ -16,7 +16,7 @@ mod unit;
 
 pub use answers::report_of;
 pub use conduct::illegal;
-pub use conflicts::{is_key, is_refused};
+pub use conflicts::{is_key, is_not_admitted};
 pub use demand::{Admission, Demand, admission_of, demand_of};
 pub use laws::{
     capacity_agrees, effects_are_well_formed, every_request_has_a_step, free_commands_end_good,

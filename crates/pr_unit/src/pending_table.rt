@@ -3,8 +3,9 @@
 ghost use Rattle.std.specs.Prelude.{◌≡◌, ◌<◌, ◌≤◌, ℕ, true, IsNone, IfSome, ◌↔◌};
 ghost use Rattle.std.specs.FinSet as set;
 ghost use Rattle.pr_attention.specs.Attentions.{code_of};
-ghost use Rattle.pr_unit.specs.Attentions.{each_with, hosts_below, table_pairs};
-ghost use Rattle.pr_unit.specs.UnitStates.{has_any, pending_after};
+ghost use Rattle.pr_unit.specs.Attentions.{each_with, hosts_below};
+ghost use Rattle.pr_unit.specs.Tables.{table_pairs};
+ghost use Rattle.pr_unit.specs.UnitStates.{has_attention, pending_after};
 ghost use Rattle.pr_unit.specs.inside.Told.{AreBelow, TellsBelow, IsLowestOf, HasNone};
 
 use pr_attention::{Attention, Pending};
@@ -34,7 +35,7 @@ pub(crate) fn lowest(pendings: &[Pending; MOST_NEXUSES], host: u8) -> Option<Att
 /// Whether any attention is pending for the host.
 pub(crate) fn has_any(pendings: &[Pending; MOST_NEXUSES], host: u8) -> bool
     requires { host < MOST_NEXUSES }
-    ensures { result ≡ has_any (table_pairs pendings.now) host }
+    ensures { result ≡ has_attention (table_pairs pendings.now) host }
 {
     Attention::ALL
         .iter()

@@ -3,8 +3,9 @@
 ghost use Rattle.std.specs.Prelude.{◌≡◌, ◌<◌, ◌≤◌, ◌↔◌, ℕ, true, false, None, IsTrue, IsSome, IfSome, length};
 ghost use Rattle.std.specs.FinSet as set;
 ghost use Rattle.pr_cdb.specs.Requests.{request_of_wire};
-ghost use Rattle.pr_attention.specs.Attentions.{AreAttentions, is_attention, no_code};
-ghost use Rattle.pr_unit.specs.Attentions.{place, table_pairs};
+ghost use Rattle.pr_attention.specs.Attentions.{is_attention};
+ghost use Rattle.pr_attention.specs.CodeSets.{AreAttentions, no_code};
+ghost use Rattle.pr_unit.specs.Tables.{place, table_pairs};
 
 use crate::answers::{answer, take_effect};
 use crate::conflicts::command_conflicts;
@@ -30,7 +31,8 @@ pub struct Unit {
 
 impl Model for Unit {
     ghost use Rattle.pr_registry.specs.contracts.registry.Registry as registry_code;
-    ghost use Rattle.pr_unit.specs.UnitStates.{UnitState, IsWellFormed, unit_of};
+    ghost use Rattle.pr_unit.specs.UnitStates.{UnitState, IsWellFormed};
+    ghost use Rattle.pr_unit.specs.Tables.{unit_of};
     ghost use Rattle.pr_unit.specs.inside.UnitCodes.{unit_code};
 
     ghost Value = { UnitState };
@@ -43,10 +45,11 @@ impl Model for Unit {
 }
 
 impl Unit {
-    ghost use Rattle.pr_registry.specs.Registrations.{empty_registry};
+    ghost use Rattle.pr_registry.specs.Tables.{empty_registry};
     ghost use Rattle.pr_cdb.specs.declared.wire.Request.TheVariants.{Plain};
     ghost use Rattle.pr_cdb.specs.declared.reply.Reply.{Reply};
-    ghost use Rattle.pr_unit.specs.UnitStates.{UnitState, IsWellFormed, unit_of, is_pending, effect, quiet_unit, reset};
+    ghost use Rattle.pr_unit.specs.UnitStates.{UnitState, IsWellFormed, is_pending, effect, reset};
+    ghost use Rattle.pr_unit.specs.Tables.{unit_of, quiet_unit};
     ghost use Rattle.pr_unit.specs.Replies.{is_good};
     ghost use Rattle.pr_unit.specs.Conduct.{command_conflicts, command_fault};
     ghost use Rattle.pr_unit.specs.Steps.{Step, decision};

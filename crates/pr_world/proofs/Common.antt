@@ -15,8 +15,9 @@ pub use Rattle.pr_cdb.specs.declared.wire.Request.{Request}
 pub use Rattle.pr_cdb.specs.declared.wire.Request.TheVariants.{Plain}
 pub use Rattle.pr_unit.specs.UnitStates.{UnitState}
 pub use Rattle.pr_script.specs.Scripts.{Stmts, Standing, ready, stopped}
-pub use Rattle.pr_roles.specs.Answers.{Answers, may_come, how_now}
-pub use Rattle.pr_roles.specs.Safety.{IsLegal}
+pub use Rattle.pr_roles.specs.Answers.{Answers, may_come}
+pub use Rattle.pr_roles.specs.Schedules.{how_now}
+pub use Rattle.pr_roles.specs.LegalHistories.{IsLegal}
 unfoldable pub use Rattle.pr_roles.specs.Safety.{IsSafe}
 pub use Rattle.pr_roles.specs.Scenarios.{Task, Scripted, Planned, Nexus, role, task, Scenario, nexus, nexus_of}
 unfoldable pub use Rattle.pr_roles.specs.Scenarios.{scenario_of}

@@ -19,7 +19,8 @@ use Rattle.pr_roles.specs.Permits.{is_permitted}
 use Rattle.pr_roles.specs.Scenarios.{Scenario, Scripted, role, task}
 use Rattle.pr_roles.specs.Worlds.{Event, Run, World, commands_by, world_from}
 use Rattle.pr_roles.specs.Schedules.{Schedule}
-use Rattle.pr_roles.specs.Safety.{IsSafe, IsLegal}
+use Rattle.pr_roles.specs.Safety.{IsSafe}
+use Rattle.pr_roles.specs.LegalHistories.{IsLegal}
 use Rattle.pr_world.specs.declared.replaying.Replayed.{Replayed}
 use Rattle.pr_world.specs.Courses.{IsReached}
 use Rattle.pr_audit.specs.Ends.{is_trapped_end}

@@ -14,7 +14,8 @@ use Rattle.bitflags.specs.Sets.{without}
 use Rattle.std.proofs.Math.Bool.{and-false, or-false}
 use Rattle.pr_attention.specs.declared.attention.Attention.{Attention}
 use Rattle.pr_attention.specs.declared.attention.Attention.TheVariants.{PowerOn, ReservationsPreempted, ReservationsReleased, RegistrationsPreempted}
-use Rattle.pr_attention.specs.Attentions.{attentions, is_attention, code_of, no_code, AreAttentions}
+use Rattle.pr_attention.specs.Attentions.{attentions, is_attention, code_of}
+use Rattle.pr_attention.specs.CodeSets.{no_code, AreAttentions}
 use Rattle.pr_sets.specs.Numbers.{Within}
 use Rattle.pr_attention.specs.SameCodes.{is_same, is_same-tells}
 use Rattle.pr_attention.specs.Flagged.{place_of, codes_of}

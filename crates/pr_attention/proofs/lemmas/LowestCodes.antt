@@ -5,7 +5,8 @@ use Rattle.std.specs.List.{find}
 use Rattle.std.proofs.lemmas.Bool.Decides.{nat_tests}
 use Rattle.pr_attention.specs.declared.attention.Attention.{Attention}
 use Rattle.pr_attention.specs.declared.attention.Attention.TheVariants.{PowerOn, ReservationsPreempted, ReservationsReleased, RegistrationsPreempted}
-use Rattle.pr_attention.specs.Attentions.{power_on, reservations_preempted, reservations_released, registrations_preempted, code_of, each_attention, Codes, no_code, AreAttentions, IsLowest}
+use Rattle.pr_attention.specs.Attentions.{power_on, reservations_preempted, reservations_released, registrations_preempted, code_of, each_attention, Codes}
+use Rattle.pr_attention.specs.CodeSets.{no_code, AreAttentions, IsLowest}
 use Rattle.pr_attention.proofs.lemmas.Sets.{same_codes, contains-no_code}
 
 abbrev pub first_in : Codes → Option Attention

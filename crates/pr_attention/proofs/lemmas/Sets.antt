@@ -7,7 +7,8 @@ use Rattle.std.proofs.lemmas.List.Folds.{list_any_none}
 pub use Rattle.pr_sets.proofs.lemmas.Members.{same_numbers as same_codes, contains-empty as contains-no_code, contains-insert as contains-insert_code, contains-remove as contains-remove_code}
 use Rattle.pr_attention.specs.declared.attention.Attention.{Attention}
 use Rattle.pr_attention.specs.declared.attention.Attention.TheVariants.{PowerOn}
-use Rattle.pr_attention.specs.Attentions.{attentions, has_any, is_attention, code_of, Codes, no_code, AreAttentions}
+use Rattle.pr_attention.specs.Attentions.{attentions, is_attention, code_of, Codes}
+use Rattle.pr_attention.specs.CodeSets.{has_any, no_code, AreAttentions}
 
 -- what a set of codes contains after a change
 pub ruleset code_reads = (contains-no_code, contains-insert_code, contains-remove_code)

@@ -5,13 +5,13 @@ use Rattle.pr_cdb.specs.declared.command.Kind.{Kind}
 use Rattle.pr_cdb.specs.declared.command.Kind.TheVariants.{WriteExclusive}
 use Rattle.pr_cdb.specs.declared.command.Command.{Command}
 use Rattle.pr_cdb.specs.declared.command.Command.TheVariants.{Read, Write, ReadKeys, ReadReservation, ReportCapabilities, Register, RegisterIgnore, Reserve, Release, Clear, Preempt, PreemptAbort}
-use Rattle.pr_cdb.specs.Kinds.{code_of, kind_of_code}
+use Rattle.pr_cdb.specs.Kinds.{type_code, kind_of_code}
 use Rattle.pr_cdb.specs.Bytes.{be16, be32, be64}
-use Rattle.pr_cdb.specs.Requests.{request_of, named_command, reserve_out, kind_of_byte, length_of, has_refused_flag, plain_request, request_of_wire}
+use Rattle.pr_cdb.specs.Requests.{request_of, named_command, reserve_out_command, kind_of_byte, length_of, has_refused_flag, plain_request, request_of_wire}
 use Rattle.pr_cdb.specs.Ranges.{Fits}
 use Rattle.pr_cdb.specs.Spelling.{spelling, kind_byte}
 
-kind_of_byte-code_of : (k : Kind) → kind_of_byte (code_of k) ≡ Some k
+kind_of_byte-code_of : (k : Kind) → kind_of_byte (type_code k) ≡ Some k
 unfolding kind_of_byte kind_of_code
 kind_of_byte-code_of WriteExclusive = refl
 kind_of_byte-code_of _ = refl
@@ -22,7 +22,7 @@ kind_of_byte-kind_byte None = refl
 kind_of_byte-kind_byte (Some k) = kind_of_byte-code_of k
 
 pub written_is_read : (c : Command) → Fits c → request_of_wire (spelling c) ≡ plain_request c
-unfolding request_of named_command reserve_out length_of has_refused_flag be16 be32 be64 spelling
+unfolding request_of named_command reserve_out_command length_of has_refused_flag be16 be32 be64 spelling
 written_is_read (Read lba blocks) fits = rw (from_be_bytes-to_be_bytes_4 lba fits.0, from_be_bytes-to_be_bytes_2 blocks fits.1) refl
 written_is_read (Write lba blocks) fits = rw (from_be_bytes-to_be_bytes_4 lba fits.0, from_be_bytes-to_be_bytes_2 blocks fits.1) refl
 written_is_read (ReadKeys alloc) fits = rw (from_be_bytes-to_be_bytes_2 alloc fits) refl

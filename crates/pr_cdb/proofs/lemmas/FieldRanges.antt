@@ -7,7 +7,7 @@ use Rattle.pr_cdb.specs.declared.command.Command.{Command}
 use Rattle.pr_cdb.specs.declared.wire.Request.{Request}
 use Rattle.pr_cdb.specs.declared.wire.Bad.{Bad}
 use Rattle.pr_cdb.specs.Bytes.{be16, be32, be64, has_flag}
-use Rattle.pr_cdb.specs.Requests.{request_of, named_command, reserve_out, kind_of_byte, length_of, has_refused_flag, plain_request, illegal, AreBytes}
+use Rattle.pr_cdb.specs.Requests.{request_of, named_command, reserve_out_command, kind_of_byte, length_of, has_refused_flag, plain_request, faulty_request, AreBytes}
 use Rattle.pr_cdb.specs.Ranges.{Fits, FitsWhereRead}
 
 pub be16-lt : (bytes : List ℕ) (i : ℕ) → AreBytes bytes → be16 bytes i < 2 ^ 16
@@ -42,8 +42,8 @@ either : (b : Bool) {x y : Result Request Bad} → Read x → Read y → Read (i
 either true p q = p
 either false p q = q
 
-Named-reserve_out : (action : ℕ) (kind : Option Kind) (rk sark : ℕ) → rk < 2 ^ 64 → sark < 2 ^ 64 → Named (reserve_out action kind rk sark)
-unfolding reserve_out
+Named-reserve_out : (action : ℕ) (kind : Option Kind) (rk sark : ℕ) → rk < 2 ^ 64 → sark < 2 ^ 64 → Named (reserve_out_command action kind rk sark)
+unfolding reserve_out_command
 Named-reserve_out action None rk sark r s =
     one_of (action == REGISTER) (record { fits = (r, s) }) (one_of (action == RESERVE) (record { fits = tt }) (one_of (action == RELEASE) (record { fits = tt }) (
     one_of (action == CLEAR) (record { fits = r }) (one_of (action == PREEMPT) (record { fits = (r, s) }) (one_of (action == PREEMPT_AND_ABORT) (record { fits = (r, s) }) (
@@ -65,7 +65,7 @@ Named-named cdb params c p =
     one_of (action == REPORT_CAPABILITIES) (record { fits = blocks }) (record { fits = tt }))))
     (Named-reserve_out action (kind_of_byte (slice_index cdb 2)) (be64 params 0) (be64 params 8) (be64-lt params 0 p) (be64-lt params 8 p))))))
 
-Read-named : (o : Option Command) → Named o → Read (option_map_or (λ c. plain_request c) o (illegal INVALID_FIELD_IN_CDB))
+Read-named : (o : Option Command) → Named o → Read (option_map_or (λ c. plain_request c) o (faulty_request INVALID_FIELD_IN_CDB))
 Read-named None n = record { fits = tt }
 Read-named (Some c) n = record { fits = n.fits }
 

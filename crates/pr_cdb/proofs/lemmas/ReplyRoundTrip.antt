@@ -9,7 +9,8 @@ use Rattle.pr_cdb.specs.declared.codes.TheConstants.{HEADER_LENGTH, KEY_LENGTH, 
 use Rattle.pr_cdb.specs.declared.command.Kind.{Kind}
 use Rattle.pr_cdb.specs.declared.reply.Sense.{Sense}
 use Rattle.pr_cdb.specs.Bytes.{be32, be64}
-use Rattle.pr_cdb.specs.ReplyData.{sense_bytes, sense_in, keys_bytes, keys_in, first_keys, key_count, reservation_bytes, holder, holder_in}
+use Rattle.pr_cdb.specs.ReplyData.{sense_bytes, keys_bytes, keys_in, first_keys, key_count, reservation_bytes, holder_in}
+use Rattle.pr_cdb.specs.ReadBack.{sense_in, holder}
 use Rattle.pr_cdb.specs.inside.KeyWidths.{HasKey}
 
 pub sense_in-sense_bytes : (s : Sense) → s.key < 16 → sense_in (sense_bytes s) ≡ Some s

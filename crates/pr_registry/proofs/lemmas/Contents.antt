@@ -9,7 +9,8 @@ use Rattle.std.proofs.lemmas.List.{take_all}
 use Rattle.std.proofs.lemmas.Bool.Decides.{eqb_tells}
 use Rattle.std.proofs.lemmas.List.Folds.{list_any-append}
 use Rattle.std.proofs.Math.Bool.{or-false, or-true}
-use Rattle.pr_cdb.specs.ReplyData.{keys_bytes, keys_in, reservation_bytes, holder, holder_in, cut}
+use Rattle.pr_cdb.specs.ReplyData.{keys_bytes, keys_in, reservation_bytes, holder_in, cut}
+use Rattle.pr_cdb.specs.ReadBack.{holder}
 use Rattle.pr_cdb.specs.inside.KeyWidths.{HasKey}
 use Rattle.pr_cdb.proofs.lemmas.ReplyRoundTrip.{keys_in-keys_bytes, holder_in-reservation_bytes}
 use Rattle.pr_cdb.specs.declared.command.Kind.{Kind}

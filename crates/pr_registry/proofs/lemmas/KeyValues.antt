@@ -6,7 +6,7 @@ use Rattle.std.specs.Cmp.{nat_cmp_total}
 use Rattle.std.specs.FinMap as finmap
 use Rattle.std.specs.FinMap.{put}
 use Rattle.std.proofs.lemmas.List.{nil_from_length, map_push}
-use Rattle.pr_registry.specs.Hosts.{with_pair}
+use Rattle.pr_registry.specs.Tables.{with_pair}
 
 -- each host of the list is below n
 abbrev AreBelow : ℕ → List (ℕ × ℕ) → Type 0

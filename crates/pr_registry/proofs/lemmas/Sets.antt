@@ -10,7 +10,8 @@ use Rattle.std.proofs.Math.Bool.{or-false}
 use Rattle.pr_sets.specs.Kept.{numbers_where}
 use Rattle.pr_sets.proofs.lemmas.Members.{contains-numbers_where, lt-zero, lt-suc}
 pub use Rattle.pr_sets.proofs.lemmas.Members.{same_numbers as same_hosts, contains-empty as contains-nobody, contains-insert, contains-remove, contains-difference, contains-union}
-use Rattle.pr_registry.specs.Hosts.{without, with_pair}
+use Rattle.pr_registry.specs.Hosts.{without}
+use Rattle.pr_registry.specs.Tables.{with_pair}
 
 pub same_keys : (m n : Keys) → ((q : ℕ) → map.get m q ≡ map.get n q) → m ≡ n
 same_keys m n same = map.same_map nat_cmp_total nat_cmp-IsAntisymmetric m n same

@@ -9,10 +9,12 @@ use Rattle.pr_cdb.specs.declared.command.Kind.{Kind}
 use Rattle.pr_registry.specs.declared.held.Held.{Held}
 use Rattle.pr_registry.specs.declared.held.Held.TheVariants.{One, All}
 use Rattle.pr_registry.specs.Hosts.{without}
-use Rattle.pr_registry.specs.Registrations.{IsKey, HasHolder, state_from, holds_alone, is_all, new_reservation, empty_registry}
+use Rattle.pr_registry.specs.Registrations.{IsKey, HasHolder, holds_alone, is_all, new_reservation}
+use Rattle.pr_registry.specs.Tables.{state_from, empty_registry}
 use Rattle.pr_registry.specs.inside.TableStates.{IsKeyOrNone}
 use Rattle.pr_registry.specs.Effects.{next, held_by_rest, held_or, held_after_preempt, with_registration, without_registration, with_reservation, after_release, after_clear, after_preempt}
-use Rattle.pr_registry.specs.Changes.{Case, ReplacesAll, ReplacesHolder, RemovesKey, HasKindIfReplacing, is_released}
+use Rattle.pr_registry.specs.Changes.{Case, ReplacesAll, ReplacesHolder, RemovesKey, is_released}
+use Rattle.pr_registry.specs.Premises.{HasKindIfReplacing}
 use Rattle.pr_registry.proofs.lemmas.Sets.{same_keys, get-insert, get-empty, get-without, contains-just, contains-remove, contains-hosts_with, not_empty_from_some}
 use Rattle.pr_registry.proofs.lemmas.Tables.{slot, get-table_keys, get-table_keys_in}
 

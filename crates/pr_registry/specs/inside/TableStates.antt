@@ -5,7 +5,8 @@ use Rattle.std.specs.Coded.{Coded, code_by, coded×, coded_ℕ, coded_option}
 use Rattle.pr_cdb.specs.declared.codes.TheConstants.{MOST_NEXUSES}
 use Rattle.pr_registry.specs.declared.held.Held.{Held}
 use Rattle.pr_registry.specs.Hosts.{Keys}
-use Rattle.pr_registry.specs.Registrations.{State, IsKey, table_keys}
+use Rattle.pr_registry.specs.Registrations.{State, IsKey}
+use Rattle.pr_registry.specs.Tables.{table_keys}
 
 abbrev pub state_code : Coded Held → Coded State
 state_code held =

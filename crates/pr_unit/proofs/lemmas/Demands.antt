@@ -7,13 +7,29 @@ use Rattle.pr_cdb.specs.Ranges.{Fits}
 use Rattle.pr_registry.specs.Hosts.{is_key}
 use Rattle.pr_registry.specs.Registrations.{State, key_of, is_registered}
 use Rattle.pr_unit.specs.declared.demand.Demand.TheVariants.{Register, Unregister, PreemptAll, Preempt}
-use Rattle.pr_unit.specs.Demands.{Asked, demand_of, is_refused}
-use Rattle.pr_unit.specs.Conduct.{conduct}
+use Rattle.pr_unit.specs.Demands.{Asked, demand_of, is_not_admitted}
+use Rattle.pr_unit.specs.Conduct.{conduct, leaves, unregistering}
 use Rattle.pr_unit.specs.inside.Readiness.{IsReady}
 
 -- what does not conflict is not refused, and nothing that stands keeps its sender from it
-pub free_parts : (u : State) (h : ℕ) (c : Command) → command_conflicts u h c ≡ false → (is_refused (key_of u h) c ≡ false) × ((conduct u h (demand_of c)).kept ≡ false)
-free_parts u h c free = or_parts (is_refused (key_of u h) c) (conduct u h (demand_of c)).kept free
+pub free_parts : (u : State) (h : ℕ) (c : Command) → command_conflicts u h c ≡ false → (is_not_admitted (key_of u h) c ≡ false) × ((conduct u h (demand_of c)).kept ≡ false)
+free_parts u h c free = or_parts (is_not_admitted (key_of u h) c) (conduct u h (demand_of c)).kept free
+
+-- nothing keeps anybody from unregistering
+pub unregister_kept : (u : State) (h : ℕ) → (conduct u h Unregister).kept ≡ false
+unregister_kept u h = at (is_registered u h)
+  where
+    at : (there : Bool) → (if there then unregistering u h else leaves u).kept ≡ false
+    at true = refl
+    at false = refl
+
+-- and it has no fault
+pub unregister_fault : (u : State) (h : ℕ) → (conduct u h Unregister).fault ≡ None
+unregister_fault u h = at (is_registered u h)
+  where
+    at : (there : Bool) → (if there then unregistering u h else leaves u).fault ≡ None
+    at true = refl
+    at false = refl
 
 -- who has the key is registered
 registered_by_key : (u : State) (h rk : ℕ) → not (is_key (key_of u h) rk) ≡ false → is_registered u h ≡ true
@@ -37,7 +53,7 @@ preempts u h sark kind there = at (sark == 0) refl
     at true is = there
     at false is = (there, grind (arith, nat_tests))
 
-pub ready : (u : State) (h : ℕ) (c : Command) → is_refused (key_of u h) c ≡ false → IsReady u h (demand_of c)
+pub ready : (u : State) (h : ℕ) (c : Command) → is_not_admitted (key_of u h) c ≡ false → IsReady u h (demand_of c)
 ready u h (command.Register rk sark) is = registers u h sark
 ready u h (command.RegisterIgnore sark) is = registers u h sark
 ready u h (command.Reserve rk kind) is = registered_by_key u h rk is

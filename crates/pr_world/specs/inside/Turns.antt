@@ -9,8 +9,7 @@ use Rattle.pr_roles.specs.declared.entry.Entry.{Entry}
 use Rattle.pr_roles.specs.declared.how.How.{How}
 use Rattle.pr_roles.specs.Scenarios.{Scenario, role}
 use Rattle.pr_roles.specs.Worlds.{Control, Going, Trapped, Free, control, standing_of, control_after}
-use Rattle.pr_roles.specs.Answers.{how_now}
-use Rattle.pr_roles.specs.Schedules.{Schedule, plan, is_passed_over}
+use Rattle.pr_roles.specs.Schedules.{how_now, Schedule, plan, is_passed_over}
 use Rattle.pr_world.specs.declared.act.Act.{Act}
 use Rattle.pr_world.specs.declared.act.Act.TheVariants as act
 use Rattle.pr_world.specs.declared.participant.Participant.{Participant}

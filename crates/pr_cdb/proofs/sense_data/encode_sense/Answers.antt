@@ -1,5 +1,5 @@
 use Rattle.std.proofs.Common.{ap, ◌∙◌}
-use Rattle.pr_cdb.specs.ReplyData.{sense_in}
+use Rattle.pr_cdb.specs.ReadBack.{sense_in}
 use Rattle.pr_cdb.proofs.lemmas.ReplyRoundTrip.{sense_in-sense_bytes}
 use Rattle.pr_cdb.proofs.sense_data.encode_sense.Goals as goal
 

@@ -2,10 +2,10 @@
 use Rattle.pr_interference.proofs.Common.{◌≡◌, ℕ, ◌<◌, Bool, true, false, not, ◌&&◌, ◌||◌, List, if◌then◌else◌, ◌==◌, Some, None, Option, sym, refl, ap, ◌∙◌, subst, false≢true, and_from, Command, Kind, Plain, is_kind, State, key_of, kind_of, IsKey, Held, request_looks, is_declared, is_action, AreDeclared, names, Action, number_in, purpose_of_preempt, purpose_of, Purpose, purpose_for, eq-eqb, eqb-true}
 use Rattle.std.proofs.Common.{◌^◌, lit<}
 use Rattle.pr_cdb.specs.declared.command.Command.TheVariants as command
-use Rattle.pr_cdb.specs.Kinds.{code_of}
+use Rattle.pr_cdb.specs.Kinds.{type_code}
 use Rattle.pr_cdb.specs.Ranges.{Fits}
 use Rattle.pr_unit.specs.Conduct.{command_conflicts}
-use Rattle.pr_unit.specs.Demands.{is_refused, is_in_range, registering}
+use Rattle.pr_unit.specs.Demands.{is_not_admitted, is_in_range, registering}
 use Rattle.pr_roles.specs.declared.role.Action.TheVariants as action
 use Rattle.pr_script.specs.Grammar.{is_written_key}
 use Rattle.pr_unit.specs.declared.demand.Demand.TheVariants as purpose
@@ -18,7 +18,7 @@ use Rattle.pr_regions.specs.Purposes.{numbered}
 -- ---- refused commands
 
 -- what does not conflict is not refused
-pub not_refused : (u : State) (h : ℕ) (c : Command) → command_conflicts u h c ≡ false → is_refused (key_of u h) c ≡ false
+pub not_refused : (u : State) (h : ℕ) (c : Command) → command_conflicts u h c ≡ false → is_not_admitted (key_of u h) c ≡ false
 not_refused u h c free = (free_parts u h c free).0
 
 -- a purpose that admits strangers
@@ -32,7 +32,7 @@ registering_admits keys sark p = at (sark == 0)
     at true is refuses = admits p Unregister is refl refuses
     at false is refuses = admits p (Register (number_in keys sark)) is refl refuses
 
-pub strangers_refused : (keys : List ℕ) (c : Command) (p : Purpose) → purpose_of keys c ≡ Some p → refuses_strangers p ≡ true → is_refused None c ≡ true
+pub strangers_refused : (keys : List ℕ) (c : Command) (p : Purpose) → purpose_of keys c ≡ Some p → refuses_strangers p ≡ true → is_not_admitted None c ≡ true
 strangers_refused keys (command.Read lba blocks) p is refuses = admits p (purpose.Read (is_in_range lba blocks)) is refl refuses
 strangers_refused keys (command.Write lba blocks) p is refuses = admits p (purpose.Write (is_in_range lba blocks)) is refl refuses
 strangers_refused keys (command.Register rk sark) p is refuses = absurd (false≢true (registering_admits keys sark p is refuses))
@@ -52,7 +52,7 @@ pub record Spells (keys : List ℕ) (a : Action) (key : Option ℕ) (p : Purpose
   pub acts : request_looks (Plain command) ≡ false
   pub named : names a command ≡ true
   pub asked : purpose_of keys command ≡ Some p
-  pub accepted : is_refused key command ≡ false
+  pub accepted : is_not_admitted key command ≡ false
 
 written_few : (keys : List ℕ) (key : ℕ) → AreDeclared keys → is_written_key keys key ≡ true → key < 2 ^ 64
 written_few keys key declared is = at (key == 0) refl is
@@ -87,7 +87,7 @@ pub spells : (keys : List ℕ) (a : Action) (held : Option Held) (rk : ℕ) (p :
 spells keys (action.Register key) held rk p declared fits own meant = spells_register keys key (Some rk) p declared fits meant
 spells keys action.Unregister held rk p declared fits own meant = spells_unregister keys (Some rk) p meant
 spells keys (action.Reserve kind) held rk p declared fits own meant =
-    record { command = command.Reserve rk kind; fits = own.1; acts = refl; named = and_from (is_kind kind kind) true (eq-eqb (code_of kind) (code_of kind) refl) refl; asked = meant; accepted = ap not (eq-eqb rk rk refl) }
+    record { command = command.Reserve rk kind; fits = own.1; acts = refl; named = and_from (is_kind kind kind) true (eq-eqb (type_code kind) (type_code kind) refl) refl; asked = meant; accepted = ap not (eq-eqb rk rk refl) }
 spells keys action.Release None rk p declared fits own meant = let bad : None ≡ Some p = meant in cc
 spells keys action.Release (Some v) rk p declared fits own meant =
     record { command = command.Release rk (kind_of v); fits = own.1; acts = refl; named = refl; asked = meant; accepted = ap not (eq-eqb rk rk refl) }
@@ -97,7 +97,7 @@ spells keys (action.Preempt key kind) held rk p declared fits own meant = record
   command = command.Preempt rk key (Some kind);
   fits = (own.1, written_few keys key declared fits);
   acts = refl;
-  named = and_from (key == key) (is_kind kind kind && true) (eq-eqb key key refl) (and_from (is_kind kind kind) true (eq-eqb (code_of kind) (code_of kind) refl) refl);
+  named = and_from (key == key) (is_kind kind kind && true) (eq-eqb key key refl) (and_from (is_kind kind kind) true (eq-eqb (type_code kind) (type_code kind) refl) refl);
   asked = preempts_as keys key kind ∙ meant;
   accepted = ap not (eq-eqb rk rk refl);
 }

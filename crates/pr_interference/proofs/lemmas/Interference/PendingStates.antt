@@ -6,7 +6,7 @@ use Rattle.std.proofs.lemmas.Bool.{and_parts, eq-eqb, ne_eqb}
 use Rattle.std.proofs.Math.Bool.{and-false, and-true}
 use Rattle.pr_attention.specs.Attentions.{attentions}
 use Rattle.pr_unit.proofs.lemmas.Attentions.ToldAttentions.{told_alike}
-use Rattle.pr_unit.specs.UnitStates.{after, change, IsWellFormed, is_any_pending, pending_after}
+use Rattle.pr_unit.specs.UnitStates.{registry_after, change, IsWellFormed, is_any_pending, pending_after}
 use Rattle.pr_unit.specs.Laws.{IsQuiet}
 use Rattle.pr_unit.proofs.lemmas.Attentions.Pairs.{contains-retain-pair}
 
@@ -33,7 +33,7 @@ shown_like v u w like formed shown = record {
 -- a command leaves them alike
 pub like_effect : (own h : ℕ) (c : Command) (u w : UnitState) → IsLike own u w → IsLike own (effect u h c) (effect w h c)
 like_effect own h c u w like = record {
-  registry = ap (λ (r : State). after r h c) like.registry;
+  registry = ap (λ (r : State). registry_after r h c) like.registry;
   pending = λ code.
       ap (λ (r : State). set.contains (pending_after w.pending (change r h c)) (own, code)) like.registry
       ∙ told_alike u.pending w.pending (change u.registry h c) own code (like.pending code);

@@ -2,7 +2,7 @@
 use Rattle.pr_interference.proofs.Common.{◌≡◌, ℕ, zero, suc, ◌<◌, ◌≤◌, Bool, true, false, not, ◌||◌, List, if◌then◌else◌, Some, None, Option, sym, refl, ap, ◌∙◌, subst, arith, false≢true, and_parts, and_from, has, BitSet, Command, State, key_of, is_registered, IsKey, Held, UnitState, effect, is_action, AreDeclared, names, holds, Clause, has_at, view_in, Scope, Item, Registration, Reservation, IsSo, Shows, IsAt, purpose_of, Changes, Place, Purpose, Branch, Transition, same_reservation, few_keys, Onlooker, purpose_for, StandingLeads, IsWatched, Any, IsLedBy, IsLeftBy, ClauseLeaves, MOST_KEYS}
 use Rattle.std.proofs.Common.{is_some}
 use Rattle.pr_unit.specs.Conduct.{command_conflicts, command_fault}
-use Rattle.pr_unit.specs.Demands.{is_refused}
+use Rattle.pr_unit.specs.Demands.{is_not_admitted}
 use Rattle.pr_views.proofs.lemmas.Possibilities.Numbers.{key_there}
 use Rattle.pr_regions.specs.declared.region.Ending.{Ending}
 use Rattle.pr_regions.specs.declared.region.Ending.TheVariants as ending
@@ -80,7 +80,7 @@ none_send s o place clause p standing u w is none leads = false≢true (sym none
     admitted b is (Some k) known = refl
     admitted false is None known = refl
     admitted true is None known =
-        absurd (false≢true (sym (not_refused u.registry place.sender leads.leads.command leading.free) ∙ ap (λ k. is_refused k leads.leads.command) known
+        absurd (false≢true (sym (not_refused u.registry place.sender leads.leads.command leading.free) ∙ ap (λ k. is_not_admitted k leads.leads.command) known
         ∙ strangers_refused s.keys leads.leads.command p leads.leads.asked is))
 
     may : may_send clause.condition p place.held place.sender standing ≡ true
@@ -99,7 +99,7 @@ none_among s o place clause p standing senders u w is are none leads =
 
 meets : (s : Scope) (o : Onlooker) (place : Place) (p : Purpose) (standing : Standing) (u : UnitState) (c : Command) → IsWatched s o place
     → Shows (view_in s o.view) u → IsSo s u (Reservation place.reservation) → ((r : ℕ) → IsSo s u (Registration place.sender r) → standing_of p r ≡ standing)
-    → purpose_of s.keys c ≡ Some p → is_refused (key_of u.registry place.sender) c ≡ false → Meets s p place.held place.sender standing u c
+    → purpose_of s.keys c ≡ Some p → is_not_admitted (key_of u.registry place.sender) c ≡ false → Meets s p place.held place.sender standing u c
 meets s o place p standing u c is shown reserved stands asked accepted = record {
   scope = is.known.fits.scope;
   below = subst (λ n. place.sender < n) (sym is.known.hosts) place.there;
@@ -197,7 +197,7 @@ left_by_branches s o place clause p standing senders branches i is are right fit
         ∙ (and_parts (holds_as clause.condition place.held place.sender (is_registered_as standing)) (is_registered_as standing || not (refuses_strangers p)) may).0
 
     met : Meets s p place.held place.sender standing u spelt.command
-    met = meets s o place p standing u spelt.command is at.shown at.reservation stands spelt.asked (ap (λ k. is_refused k spelt.command) key.is ∙ spelt.accepted)
+    met = meets s o place p standing u spelt.command is at.shown at.reservation stands spelt.asked (ap (λ k. is_not_admitted k spelt.command) key.is ∙ spelt.accepted)
 
     good : Ends s place.sender (ending.Good left.change) u spelt.command
     good = subst (λ e. Ends s place.sender e u spelt.command) left.good ((right s u spelt.command is.known.hosts met).right among.1 (among.0, among.2, among.3) at.inside)

@@ -18,6 +18,7 @@ use Rattle.pr_views.proofs.lemmas.Possibilities.Numbers.{same_registration}
 use Rattle.pr_regions.specs.Transitions.{never, Audience, tells_nobody}
 use Rattle.pr_regions.specs.inside.Parts.{is_of_registrant, told_if, told_but, tells_of_clearing, tells_of_loss, tells_of_removal, tells_of_replacement, lost_if}
 use Rattle.pr_regions.proofs.lemmas.Showing.Numbers.{AreDistinct}
+use Rattle.pr_unit.specs.Conduct.{leaves, unregistering}
 use Rattle.pr_regions.proofs.lemmas.Purposes.Conduct.{after_for, change_for}
 use Rattle.pr_regions.proofs.lemmas.Regions.ChangedStates.{Is, then_in}
 use Rattle.pr_regions.proofs.lemmas.Regions.ToldAttentions.{contains-codes_told, told-lt, flags}
@@ -170,7 +171,7 @@ module _ (s : Scope) (from : ℕ) (reach : Reach) (u : UnitState) where
         → IsWithin s from reach u (then_in u (after_for s.keys u.registry from Unregister) (change_for s.keys u.registry from Unregister))
     unregister_within gives ends tells = at (is_registered u.registry from)
       where
-        at : (b : Bool) → IsWithin s from reach u (then_in u (if b then without_registration u.registry from else u.registry) (if b then change_on_unregister u.registry from else no_change))
+        at : (b : Bool) → IsWithin s from reach u (then_in u (if b then unregistering u.registry from else leaves u.registry).after (if b then unregistering u.registry from else leaves u.registry).change)
         at true = unregistered_within gives ends tells
         at false =
             let now = number_of s.hosts u.registry.held in

@@ -1,6 +1,7 @@
 use Rattle.pr_regions.proofs.Common.{◌≡◌, ℕ, ◌≤◌, true, List, refl, sym, ◌∙◌, subst, number_in, MOST_KEYS, Some, option_map_or, Command, is_declared}
 use Rattle.pr_unit.specs.declared.demand.Demand.TheVariants.{Register, Preempt}
-use Rattle.pr_unit.specs.Demands.{Asked, demand_of, named}
+use Rattle.pr_unit.specs.Demands.{Asked, demand_of}
+use Rattle.pr_unit.specs.NamedKeys.{named}
 use Rattle.pr_regions.specs.Purposes.{names_declared}
 use Rattle.pr_regions.proofs.lemmas.Purposes.Conduct.{declared_number}
 use Rattle.pr_regions.proofs.commands.purpose_of.Goals as goal

@@ -3,7 +3,7 @@ use Rattle.pr_regions.proofs.Common.{◌≡◌, ℕ, zero, suc, ◌<◌, ◌≤�
 use Rattle.std.proofs.Math.Bool.{not-not}
 use Rattle.pr_registry.specs.declared.change.Change.{Change as Told}
 use Rattle.pr_registry.specs.Registrations.{is_holder}
-use Rattle.pr_unit.specs.UnitStates.{after, change}
+use Rattle.pr_unit.specs.UnitStates.{registry_after, change}
 use Rattle.pr_unit.specs.Conduct.{command_conflicts, command_fault}
 use Rattle.pr_regions.specs.declared.purpose.Standing.TheVariants.{Named, Other}
 use Rattle.pr_regions.specs.Regions.{names, standing_of}
@@ -57,7 +57,7 @@ is_holder-standing s p held v sender standing u c m is =
 
 pub asks : (s : Scope) (p : Purpose) (held : Option Held) (sender : ℕ) (standing : Standing) (u : UnitState) (c : Command) → HasNumber p
     → Meets s p held sender standing u c
-    → IsAsked s.keys u.registry sender p (command_conflicts u.registry sender c) (command_fault u.registry sender c) (after u.registry sender c) (change u.registry sender c)
+    → IsAsked s.keys u.registry sender p (command_conflicts u.registry sender c) (command_fault u.registry sender c) (registry_after u.registry sender c) (change u.registry sender c)
 asks s p held sender standing u c has m = asked s.keys u.registry sender p c has m.purpose m.accepted
 
 pub conflict_ends : (s : Scope) (p : Purpose) (held : Option Held) (sender : ℕ) (standing : Standing) (u : UnitState) (c : Command) → HasNumber p
@@ -78,10 +78,10 @@ pub good_ends : (s : Scope) (p : Purpose) (held : Option Held) (sender : ℕ) (s
 good_ends s p held sender standing u c to out left tells b has m free whole does becomes =
     let asked = asks s p held sender standing u c has m in
     let known = acts s.keys s.hosts sender to out left tells u.registry (after_for s.keys u.registry sender p) (change_for s.keys u.registry sender p) b (few_keys s.keys m.scope.keys) does becomes in
-    let so : Acts s.keys s.hosts sender b u.registry (after u.registry sender c) (change u.registry sender c) =
+    let so : Acts s.keys s.hosts sender b u.registry (registry_after u.registry sender c) (change u.registry sender c) =
     subst (λ (v : State). Acts s.keys s.hosts sender b u.registry v (change u.registry sender c)) (sym asked.after)
     (subst (λ (t : Told). Acts s.keys s.hosts sender b u.registry (after_for s.keys u.registry sender p) t) (sym asked.change) known) in
-    (asked.conflicting ∙ free, asked.faulty ∙ whole, changes s sender b u (after u.registry sender c) (change u.registry sender c) so)
+    (asked.conflicting ∙ free, asked.faulty ∙ whole, changes s sender b u (registry_after u.registry sender c) (change u.registry sender c) so)
 
 -- a number that is left, by another name
 pub leaves : (b : Transition) (to : Option ℕ) (out : ℕ → Bool) (x y : ℕ) (tells : Audience) → x ≡ y → Does b to out x tells → Does b to out y tells

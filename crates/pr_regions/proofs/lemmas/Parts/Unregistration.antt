@@ -1,5 +1,5 @@
 -- How a command ends by which its sender is registered no more.
-use Rattle.pr_regions.proofs.Common.{◌≡◌, ℕ, zero, suc, ◌<◌, Bool, true, false, not, ◌&&◌, ◌≢◌, ◌⊎◌, [], ◌∷◌, is_some, if◌then◌else◌, ◌==◌, Some, None, Option, sym, refl, ap, ◌∙◌, subst, inl, inr, arith, false≢true, eqb_tells, Command, no_change, is_held_by_all, change_on_unregister, is_told_of_loss, held_by_rest, without, is_empty, State, is_registered, key_of, Held, One, All, get-without, UnitState, HasSomebody, Scope, number_of, Registration, IsSo, Meets, HasRoom, IsCovered, Ends, Purpose, Standing, Branch, Transition, Good, Does, AlwaysEnds, never, is_unregistered, any, only, is_of_registrant, told_if, Leaves, EndsIn, Tell, ne_eqb, tells_nobody, tells_of_loss, holds_alone, is_empty_from_none}
+use Rattle.pr_regions.proofs.Common.{◌≡◌, ℕ, zero, suc, ◌<◌, Bool, true, false, not, ◌&&◌, ◌≢◌, ◌⊎◌, [], ◌∷◌, is_some, if◌then◌else◌, ◌==◌, Some, None, Option, sym, refl, ap, ◌∙◌, subst, inl, inr, arith, false≢true, eqb_tells, Command, is_held_by_all, is_told_of_loss, held_by_rest, without, is_empty, State, is_registered, key_of, Held, One, All, get-without, UnitState, HasSomebody, Scope, number_of, Registration, IsSo, Meets, HasRoom, IsCovered, Ends, Purpose, Standing, Branch, Transition, Good, Does, AlwaysEnds, never, is_unregistered, any, only, is_of_registrant, told_if, Leaves, EndsIn, Tell, ne_eqb, tells_nobody, tells_of_loss, holds_alone, is_empty_from_none}
 use Rattle.pr_unit.specs.declared.demand.Demand.TheVariants.{Unregister}
 use Rattle.std.specs.FinMap as map
 use Rattle.std.proofs.lemmas.Bool.{not-false}
@@ -7,6 +7,8 @@ use Rattle.pr_registry.specs.Hosts.{just}
 use Rattle.pr_registry.specs.Effects.{without_registration}
 use Rattle.pr_registry.proofs.lemmas.Sets.{contains-just, not_empty_from_some}
 use Rattle.pr_views.proofs.lemmas.Possibilities.Numbers.{key_there}
+use Rattle.pr_unit.specs.Conduct.{leaves as leaving, unregistering}
+use Rattle.pr_unit.proofs.lemmas.Demands.{unregister_kept, unregister_fault}
 use Rattle.pr_regions.proofs.lemmas.Purposes.Conduct.{after_for, change_for}
 use Rattle.pr_regions.proofs.lemmas.Regions.Effects.{Becomes, on_unregister, is_registered-number}
 use Rattle.pr_regions.proofs.lemmas.Parts.Endings.{registered_or_not, good_ends, leaves, same_ends}
@@ -84,8 +86,8 @@ pub unregister_absent : (hosts : ℕ) (held : Option Held) (sender : ℕ) (stand
 unregister_absent hosts held sender standing change absent does room = record {
   ends = λ s u c alike m.
       let out : is_registered u.registry sender ≡ false = registered_or_not s Unregister held sender standing u c m ∙ ap not absent in
-      same_ends s Unregister held sender standing u c hosts change tt m alike refl refl
-      (ap (λ b. if b then without_registration u.registry sender else u.registry) out) (ap (λ b. if b then change_on_unregister u.registry sender else no_change) out) does;
+      same_ends s Unregister held sender standing u c hosts change tt m alike (unregister_kept u.registry sender) (unregister_fault u.registry sender)
+      (ap (λ b. (if b then unregistering u.registry sender else leaving u.registry).after) out) (ap (λ b. (if b then unregistering u.registry sender else leaving u.registry).change) out) does;
   fits = room;
 }
 
@@ -101,9 +103,9 @@ unregister_ends s held sender standing u c left told change m present leaves_it 
     let known = on_unregister s.keys s.hosts sender u.registry in
     let so : Becomes s.keys s.hosts sender (Some 0) never now (tells_of_loss (told_if b)) u.registry (after_for s.keys u.registry sender Unregister) (change_for s.keys u.registry sender Unregister) =
     let P : Bool → Type 0 =
-    λ x. Becomes s.keys s.hosts sender (Some 0) never now (tells_of_loss (told_if b)) u.registry (if x then without_registration u.registry sender else u.registry) (if x then change_on_unregister u.registry sender else no_change) in
+    λ x. Becomes s.keys s.hosts sender (Some 0) never now (tells_of_loss (told_if b)) u.registry (if x then unregistering u.registry sender else leaving u.registry).after (if x then unregistering u.registry sender else leaving u.registry).change in
     subst P (sym there) known in
-    good_ends s Unregister held sender standing u c (Some 0) never now (tells_of_loss (told_if b)) change tt m refl refl
+    good_ends s Unregister held sender standing u c (Some 0) never now (tells_of_loss (told_if b)) change tt m (unregister_kept u.registry sender) (unregister_fault u.registry sender)
     (leaves change (Some 0) never left now (tells_of_loss (told_if b)) leaves_it (subst (λ x. Does change (Some 0) never left (tells_of_loss (told_if x))) tells does))
     so
 

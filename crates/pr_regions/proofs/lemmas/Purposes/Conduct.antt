@@ -5,9 +5,9 @@ use Rattle.std.specs.List.{position_or_len, slice_get}
 use Rattle.std.proofs.lemmas.List.Quantifiers.{position-Some}
 use Rattle.std.proofs.lemmas.Option.{slice_get-get_or}
 use Rattle.pr_registry.specs.declared.change.Change.{Change}
-use Rattle.pr_unit.specs.Demands.{Asked, demand_of, is_refused}
+use Rattle.pr_unit.specs.Demands.{Asked, demand_of, is_not_admitted}
 use Rattle.pr_unit.specs.Conduct.{conduct, command_conflicts, command_fault}
-use Rattle.pr_unit.specs.UnitStates.{after, change}
+use Rattle.pr_unit.specs.UnitStates.{registry_after, change}
 use Rattle.pr_unit.specs.inside.Readiness.{IsReady}
 use Rattle.pr_unit.proofs.lemmas.Demands.{ready}
 use Rattle.pr_regions.specs.Purposes.{numbered, purpose_of}
@@ -130,8 +130,8 @@ keyed_back keys (Preempt key (Some t)) p has same = preempted keys key t p has s
 keyed_back keys (PreemptAll None) p has same = let bad : None ≡ Some p = same in cc
 keyed_back keys (Preempt key None) p has same = let bad : None ≡ Some p = same in cc
 
-pub asked : (keys : List ℕ) (u : State) (h : ℕ) (p : Purpose) (c : Command) → HasNumber p → purpose_of keys c ≡ Some p → is_refused (key_of u h) c ≡ false
-    → IsAsked keys u h p (command_conflicts u h c) (command_fault u h c) (after u h c) (change u h c)
+pub asked : (keys : List ℕ) (u : State) (h : ℕ) (p : Purpose) (c : Command) → HasNumber p → purpose_of keys c ≡ Some p → is_not_admitted (key_of u h) c ≡ false
+    → IsAsked keys u h p (command_conflicts u h c) (command_fault u h c) (registry_after u h c) (change u h c)
 asked keys u h p c has same accepted =
     let back = keyed_back keys (demand_of c) p has same in
     record {

@@ -2,7 +2,7 @@
 use Rattle.pr_regions.proofs.Common.{◌≡◌, ℕ, Bool, true, ◌||◌, List, is_some, if◌then◌else◌, IsTrue, ◌==◌, Some, Option, refl, false, Command, Kind, option_map_or, and_parts, is_declared}
 use Rattle.pr_unit.specs.declared.demand.Demand.TheVariants.{Register, Unregister, PreemptAll, Preempt}
 use Rattle.pr_cdb.specs.declared.command.Command.TheVariants as command
-use Rattle.pr_unit.specs.Demands.{named}
+use Rattle.pr_unit.specs.NamedKeys.{named}
 use Rattle.pr_script.specs.Grammar.{is_written_key, is_written}
 use Rattle.pr_regions.specs.Purposes.{numbered, names_declared}
 

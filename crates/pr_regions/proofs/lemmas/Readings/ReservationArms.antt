@@ -5,7 +5,7 @@ use Rattle.std.proofs.lemmas.Option.{slice_get-get_or}
 use Rattle.std.proofs.lemmas.List.Elements.{Contains-push, Contains-push_cases, Contains-append_left}
 use Rattle.std.proofs.Common.{◌^◌}
 use Rattle.pr_cdb.specs.declared.command.Command.TheVariants.{ReadReservation}
-use Rattle.pr_cdb.specs.ReplyData.{holder}
+use Rattle.pr_cdb.specs.ReadBack.{holder}
 use Rattle.pr_cdb.specs.inside.KeyWidths.{HasKey}
 use Rattle.pr_registry.specs.declared.held.Held.TheVariants.{All as Everybody}
 use Rattle.pr_registry.specs.Registrations.{IsWellFormed}

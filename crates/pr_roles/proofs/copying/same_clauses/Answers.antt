@@ -1,28 +1,12 @@
--- Two clauses are equal where their actions and their conditions are.
-use Rattle.pr_roles.proofs.Common.{◌≡◌, true, ap, ◌∙◌, subst, and_parts, Option, rules, slice_eq-Decides}
-use Rattle.std.specs.Option.{option_eq}
+-- Two lists of clauses are equal where each two clauses are.
+use Rattle.pr_roles.proofs.Common.{◌≡◌, true, subst, rules, slice_eq-Decides}
 use Rattle.pr_roles.specs.declared.role.Clause.{Clause}
-use Rattle.pr_roles.specs.declared.role.Action.{Action}
-use Rattle.pr_roles.specs.declared.role.Condition.{Condition}
-use Rattle.pr_roles.specs.contracts.role.ActionPartialEq.TheImpl as action
-use Rattle.pr_roles.specs.contracts.role.ConditionPartialEq.TheImpl as condition
 use Rattle.pr_roles.specs.contracts.role.ClausePartialEq.TheImpl as clause
+use Rattle.pr_roles.proofs.lemmas.Clauses.{same_clause}
 use Rattle.pr_roles.proofs.copying.same_clauses.Goals as goal
-
-same_action : (a b : Action) → action.eq-value.it a b ≡ true → a ≡ b
-same_action a b h = search rules
-
-same_condition : (x y : Option Condition) → option_eq condition.eq-value.it x y ≡ true → x ≡ y
-same_condition x y h = search rules
-
-same : (a b : Clause) → clause.eq-value.it a b ≡ true → a ≡ b
-same a b h =
-    let parts = and_parts (action.eq-value.it a.action b.action) (option_eq condition.eq-value.it a.condition b.condition) h in
-    ap (λ x. record { action = x; condition = a.condition }) (same_action a.action b.action parts.0)
-    ∙ ap (λ x. record { action = b.action; condition = x }) (same_condition a.condition b.condition parts.1)
 
 itself : (a : Clause) → clause.eq-value.it a a ≡ true
 itself a = search rules
 
 pub returns : goal.returns
-returns c = slice_eq-Decides (λ a b. (same a b, λ e. subst (λ x. clause.eq-value.it a x ≡ true) e (itself a))) _ _ c.eq.result c.eq.ensures
+returns c = slice_eq-Decides (λ a b. (same_clause a b, λ e. subst (λ x. clause.eq-value.it a x ≡ true) e (itself a))) _ _ c.eq.result c.eq.ensures

@@ -8,7 +8,8 @@ use Rattle.std.proofs.lemmas.Bool.{ltb-true, not-true}
 use Rattle.pr_cdb.specs.declared.codes.TheConstants.{MOST_NEXUSES}
 use Rattle.pr_roles.specs.declared.limits.TheConstants.{MOST_DECLARED_1, MOST_DECLARED_2}
 use Rattle.pr_registry.specs.Hosts.{Keys}
-use Rattle.pr_registry.specs.Registrations.{State, HasHolder, is_all, table_keys, key_of, state_from, IsWellFormed}
+use Rattle.pr_registry.specs.Registrations.{State, HasHolder, is_all, key_of, IsWellFormed}
+use Rattle.pr_registry.specs.Tables.{table_keys, state_from}
 use Rattle.pr_registry.proofs.lemmas.Sets.{is_empty_from_none}
 use Rattle.pr_registry.proofs.lemmas.Tables.{get-table_keys, get-table_keys_in, not_empty-table_keys}
 use Rattle.pr_unit.proofs.lemmas.Attentions.Pairs.{contains-none}

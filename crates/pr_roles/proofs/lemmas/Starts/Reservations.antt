@@ -2,7 +2,7 @@
 use Rattle.pr_roles.proofs.Common.{◌≡◌, ℕ, zero, suc, ◌≤◌, true, List, [], ◌∷◌, is_some, slice_get, Some, None, Option, option_map, sym, refl, ap, ◌∙◌, arith, false≢true, none-some, same_Some, Held, quiet_unit, Starts, keys_under, first_under, Scenario, Fits}
 use Rattle.std.specs.Option.{option_or}
 use Rattle.std.proofs.Common.{lit<}
-use Rattle.pr_registry.specs.Registrations.{state_from}
+use Rattle.pr_registry.specs.Tables.{state_from}
 use Rattle.pr_roles.specs.Starts.{CanStart}
 use Rattle.pr_roles.specs.FirstStarts.{starts}
 use Rattle.pr_roles.specs.Laws.{StartsAreFound, FirstStartsAreEarliest}

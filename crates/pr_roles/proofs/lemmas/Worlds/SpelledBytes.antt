@@ -9,7 +9,7 @@ use Rattle.pr_cdb.specs.declared.action.ServiceAction.{ServiceAction}
 use Rattle.pr_cdb.specs.declared.action.ServiceAction.TheVariants.{ReadKeys}
 use Rattle.pr_cdb.specs.declared.layout.Layout.{Layout}
 use Rattle.pr_cdb.specs.declared.layout.Layout.TheVariants.{TestUnitReady, RequestSense, Read, Write, ReserveIn, ReserveOut}
-use Rattle.pr_cdb.specs.Kinds.{code_of}
+use Rattle.pr_cdb.specs.Kinds.{type_code}
 use Rattle.pr_cdb.specs.Requests.{AreBytes}
 use Rattle.pr_cdb.specs.Spelling.{action_number, kind_byte, laid_out, layout_of, transfer, reserve_in, reserve_out}
 
@@ -43,7 +43,7 @@ literal (b ∷ bs) is = at (nat_lt b 256) (list_all (λ x. nat_lt x 256) bs) ref
     at true rest first is later = more b bs (grind (arith, nat_tests)) (later is)
     at false rest first is later = let bad : false ≡ true = is in cc
 
-pub code_small : (kind : Kind) → code_of kind < 256
+pub code_small : (kind : Kind) → type_code kind < 256
 code_small WriteExclusive = omega arith
 code_small _ = omega arith
 

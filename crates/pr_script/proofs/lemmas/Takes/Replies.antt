@@ -6,7 +6,7 @@ use Rattle.pr_cdb.specs.declared.reply.Reply.{Reply}
 use Rattle.pr_script.specs.declared.next.NoArm.{NoArm}
 use Rattle.pr_script.specs.declared.rows.Operation.TheVariants.{Send}
 use Rattle.pr_script.specs.declared.rows.ArmTarget.{ArmTarget}
-use Rattle.pr_script.specs.Scripts.{IsReady}
+use Rattle.pr_script.specs.Traps.{IsReady}
 use Rattle.pr_script.specs.Takes.{first_match, take}
 use Rattle.pr_script.specs.Programs.{open_count}
 use Rattle.pr_script.specs.inside.Program.{concatenation, without_end, arms_at, AreJumps}

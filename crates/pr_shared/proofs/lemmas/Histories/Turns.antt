@@ -8,10 +8,9 @@ use Rattle.std.proofs.lemmas.Option.{slice_get-map}
 use Rattle.pr_cdb.specs.declared.command.Command.{Command}
 use Rattle.pr_roles.specs.declared.how.How.{How}
 use Rattle.pr_roles.specs.declared.step.Step.{Step}
-use Rattle.pr_roles.specs.Answers.{how_now}
+use Rattle.pr_roles.specs.Schedules.{how_now, Schedule, Turn as IsTurn, TurnAs}
 use Rattle.pr_roles.specs.Safety.{IsSafe}
 use Rattle.pr_roles.specs.Scenarios.{Scenario, Nexus, Task, Scripted, Planned}
-use Rattle.pr_roles.specs.Schedules.{Schedule, Turn as IsTurn, TurnAs}
 use Rattle.pr_roles.specs.Schedules as taken
 use Rattle.pr_roles.specs.Worlds.{is_guest, is_guest_task}
 use Rattle.pr_world.specs.declared.turn.Turn.{Turn}

@@ -311,17 +311,17 @@ takes rows at past turns (mark ∷ (statement (stops w)) ∷ l) reply is = absur
 
 -- ---- the whole
 
-abbrev said : List TableRow → Option Whereabouts → Option Standing
-said rows q = option_and_then (standing_at rows) q
+abbrev said : List TableRow → Option Whereabouts → Option (Option Standing)
+said rows q = option_map (standing_at rows) q
 
-abbrev then_said : List TableRow → List Reply → ℕ → Option Whereabouts → Option Standing
+abbrev then_said : List TableRow → List Reply → ℕ → Option Whereabouts → Option (Option Standing)
 then_said rows replies most q = said rows (option_and_then (followed most rows replies) q)
 
-abbrev then_told : List Reply → Option Configuration → Option Standing
-then_told replies m = option_and_then standing_of_items (option_and_then (after_replies replies) m)
+abbrev then_told : List Reply → Option Configuration → Option (Option Standing)
+then_told replies m = option_map standing_of_items (option_and_then (after_replies replies) m)
 
 Follows : List TableRow → List Reply → Whereabouts → Option Configuration → Type 0
-Follows rows replies p m = (enough : ℕ) × ((most : ℕ) → enough ≤ most → said rows (followed most rows replies p) ≡ option_and_then standing_of_items m)
+Follows rows replies p m = (enough : ℕ) × ((most : ℕ) → enough ≤ most → said rows (followed most rows replies p) ≡ option_map standing_of_items m)
 
 -- with a reply more
 on_reply : (rows : List TableRow) (reply : Reply) (replies : List Reply) (p : Whereabouts) (l : Configuration) (come : Settled rows p l)
@@ -344,7 +344,7 @@ follows : (rows : List TableRow) (replies : List Reply) (at past : ℕ) (turns :
 unfolding Follows
 follows rows [] at past turns l is =
     let come = settles_within (work l) rows at past turns l (omega arith) is in
-    (come.enough, λ most h. ap (standing_at rows) (come.comes most h) ∙ same_standing rows come.at come.past come.turns (settled_form l) come.is)
+    (come.enough, λ most h. ap (λ q. Some (standing_at rows q)) (come.comes most h) ∙ ap Some (same_standing rows come.at come.past come.turns (settled_form l) come.is))
 follows rows (reply ∷ replies) at past turns l is =
     let come = settles_within (work l) rows at past turns l (omega arith) is in
     on_reply rows reply replies (at, turns) l come (follows rows replies) (takes rows come.at come.past come.turns (settled_form l) reply come.is)

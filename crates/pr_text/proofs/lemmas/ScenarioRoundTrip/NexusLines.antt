@@ -4,7 +4,8 @@ use Rattle.std.specs.FinSet as set
 use Rattle.std.proofs.lemmas.Bool.{cond_both, or_from, not_from_false}
 use Rattle.std.proofs.Math.Bool.{and-false}
 use Rattle.std.proofs.Math.Seq.{set-append_seam}
-use Rattle.pr_attention.specs.Attentions.{Codes, no_code, code_of, is_attention, AreAttentions, each_attention}
+use Rattle.pr_attention.specs.Attentions.{Codes, code_of, is_attention, each_attention}
+use Rattle.pr_attention.specs.CodeSets.{no_code, AreAttentions}
 use Rattle.pr_attention.proofs.lemmas.Sets.{same_codes, contains-no_code, contains-insert_code}
 use Rattle.pr_script.specs.Grammar.{script_fits}
 use Rattle.pr_roles.specs.Fitting.{is_alternative, is_same_alternative, is_task, is_task_of}

@@ -6,7 +6,7 @@ use Rattle.std.proofs.lemmas.List.Elements.{All-head, All-tail}
 use Rattle.std.proofs.Math.Bool.{and-false}
 use Rattle.pr_registry.specs.declared.held.Held.TheVariants.{One}
 use Rattle.pr_registry.specs.Registrations.{is_all}
-use Rattle.pr_attention.specs.Attentions.{AreAttentions}
+use Rattle.pr_attention.specs.CodeSets.{AreAttentions}
 use Rattle.pr_roles.specs.Fitting.{AreDeclared, is_reservation, is_same_reservation, are_of}
 use Rattle.pr_roles.proofs.lemmas.Starts.AllowedStarts.{start_found}
 use Rattle.pr_roles.specs.declared.limits.TheConstants.{MOST_KEYS}

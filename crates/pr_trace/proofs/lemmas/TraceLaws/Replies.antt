@@ -13,8 +13,8 @@ use Rattle.pr_cdb.specs.declared.wire.Request.{Request}
 use Rattle.pr_cdb.specs.declared.wire.Request.TheVariants.{Plain, Faulty}
 use Rattle.pr_cdb.specs.declared.wire.Bad.{Bad}
 use Rattle.pr_cdb.specs.Bytes.{be32, has_flag}
-use Rattle.pr_cdb.specs.Kinds.{code_of}
-use Rattle.pr_cdb.specs.Requests.{request_of, named_command, length_of, has_refused_flag, plain_request, illegal}
+use Rattle.pr_cdb.specs.Kinds.{type_code}
+use Rattle.pr_cdb.specs.Requests.{request_of, named_command, length_of, has_refused_flag, plain_request, faulty_request}
 use Rattle.pr_cdb.specs.ReplyData.{sense_bytes, keys_bytes, reservation_bytes, capabilities_bytes, cut}
 use Rattle.pr_attention.specs.declared.attention.Attention.{Attention}
 use Rattle.pr_attention.specs.declared.attention.Attention.TheVariants.{PowerOn}
@@ -27,6 +27,7 @@ use Rattle.pr_unit.specs.UnitStates.{UnitState, IsWellFormed as IsWellFormedUnit
 use Rattle.pr_registry.specs.Changes.{preempt_case, is_replacing}
 use Rattle.pr_unit.specs.declared.demand.Demand.TheVariants as demand
 use Rattle.pr_unit.specs.Demands.{Asked, demand_of}
+use Rattle.pr_unit.proofs.lemmas.Demands.{unregister_fault}
 use Rattle.pr_unit.specs.Replies.{good, check, conflict, refused_with, report, is_request_sense, reservation, data_of}
 use Rattle.pr_unit.specs.Steps.{IsDone, Step}
 use Rattle.pr_roles.specs.declared.limits.TheConstants.{MOST_DECLARED_1, MOST_DECLARED_2}
@@ -70,9 +71,9 @@ held_are generation None = (both (to_be_bytes w32 generation) (to_be_bytes w32 0
 held_are generation (Some r) =
     let front = both (to_be_bytes w32 generation) (to_be_bytes w32 16) (number 4 generation) (number 4 16) in
     let key = both (to_be_bytes w32 generation ++ to_be_bytes w32 16) (to_be_bytes w64 r.0) front (number 8 r.0) in
-    let kind = more (code_of r.1) (0 ∷ 0 ∷ []) (code_small r.1) (literal (0 ∷ 0 ∷ []) refl) in
-    let zeros = both (0 ∷ 0 ∷ 0 ∷ 0 ∷ 0 ∷ []) (code_of r.1 ∷ 0 ∷ 0 ∷ []) (literal (0 ∷ 0 ∷ 0 ∷ 0 ∷ 0 ∷ []) refl) kind in
-    (both (to_be_bytes w32 generation ++ to_be_bytes w32 16 ++ to_be_bytes w64 r.0) (0 ∷ 0 ∷ 0 ∷ 0 ∷ 0 ∷ code_of r.1 ∷ 0 ∷ 0 ∷ []) key zeros, omega arith)
+    let kind = more (type_code r.1) (0 ∷ 0 ∷ []) (code_small r.1) (literal (0 ∷ 0 ∷ []) refl) in
+    let zeros = both (0 ∷ 0 ∷ 0 ∷ 0 ∷ 0 ∷ []) (type_code r.1 ∷ 0 ∷ 0 ∷ []) (literal (0 ∷ 0 ∷ 0 ∷ 0 ∷ 0 ∷ []) refl) kind in
+    (both (to_be_bytes w32 generation ++ to_be_bytes w32 16 ++ to_be_bytes w64 r.0) (0 ∷ 0 ∷ 0 ∷ 0 ∷ 0 ∷ type_code r.1 ∷ 0 ∷ 0 ∷ []) key zeros, omega arith)
 
 capabilities : AreBytes capabilities_bytes × (length capabilities_bytes ≤ 8)
 unfolding capabilities_bytes
@@ -160,6 +161,7 @@ faults_by u h (demand.Write in_range) = range_faults in_range
 faults_by u h (demand.Release kind) = one_of _ (a_fault INVALID_FIELD_IN_PARAMETER_LIST INVALID_RELEASE_OF_PERSISTENT_RESERVATION (omega arith) (omega arith)) no_fault
 faults_by u h (demand.PreemptAll kind) = one_of _ (a_fault INVALID_FIELD_IN_PARAMETER_LIST 0 (omega arith) (omega arith)) (preempt_faults kind true)
 faults_by u h (demand.Preempt key kind) = preempt_faults kind (is_replacing (preempt_case u.keys u.held key))
+faults_by u h demand.Unregister = subst Faults (sym (unregister_fault u h)) no_fault
 faults_by u h _ = no_fault
 
 command_faults : (u : State) (h : ℕ) (c : Command) → Faults (command_fault u h c)
@@ -167,13 +169,13 @@ command_faults u h c = faults_by u h (demand_of c)
 
 -- ---- what bytes are read as
 
-refused : (asc : ℕ) → asc < 256 → Reads (illegal asc)
+refused : (asc : ℕ) → asc < 256 → Reads (faulty_request asc)
 refused asc small = record { senses = record { key = omega arith; asc = small; ascq = omega arith } }
 
 unread : (bad : Bad) → Reads (Err bad)
 unread bad = record { senses = tt }
 
-named : (o : Option Command) → Reads (option_map_or (λ c. plain_request c) o (illegal INVALID_FIELD_IN_CDB))
+named : (o : Option Command) → Reads (option_map_or (λ c. plain_request c) o (faulty_request INVALID_FIELD_IN_CDB))
 named None = refused INVALID_FIELD_IN_CDB (omega arith)
 named (Some c) = record { senses = tt }
 

@@ -8,7 +8,7 @@ use Rattle.pr_registry.specs.declared.held.Held.TheVariants.{All as Everybody, O
 use Rattle.pr_output.proofs.lemmas.PrintedLines.KeyDigits.{key_short}
 use Rattle.pr_registry.specs.Registrations.{IsWellFormed, key_of}
 use Rattle.pr_registry.specs.declared.held.Held.{Held}
-use Rattle.pr_cdb.specs.Kinds.{code_of}
+use Rattle.pr_cdb.specs.Kinds.{type_code}
 use Rattle.pr_audit.specs.Ends.{Ending, stops, waits, traps, leaves}
 use Rattle.pr_output.specs.PrintedLines.{generation_word, key_or_dash, registration_word}
 use Rattle.pr_trace.specs.TraceText.{ending_line, registration_words, trace_text}
@@ -141,9 +141,9 @@ generation_are generation = wider 81 (generation_word generation) (pairs_word 4 
 holder_are : (names : List (List ℕ)) (held : Option Held) → AreNames names → IsWord 81 (held_word names held)
 holder_are names None are = known 81 (codes "none") refl (omega arith)
 holder_are names (Some (One kind host)) are =
-    word_both 64 17 (decimal (code_of kind)) (codes ":" ++ name_of names host) (digits_word 10 (code_of kind))
+    word_both 64 17 (decimal (type_code kind)) (codes ":" ++ name_of names host) (digits_word 10 (type_code kind))
     (word_both 1 MOST_LETTERS (codes ":") (name_of names host) (known 1 (codes ":") refl (omega arith)) (name_of_word names host are))
-holder_are names (Some (Everybody kind)) are = number_word (code_of kind)
+holder_are names (Some (Everybody kind)) are = number_word (type_code kind)
 
 -- a key of 64 bits has at most 16 digits
 abbrev IsShortKey : Option ℕ → Type 0

@@ -15,7 +15,8 @@ use Rattle.std.proofs.Math.Bool.{or_self, and-or_distrib_right, and-or_distrib_l
 use Rattle.pr_attention.proofs.lemmas.Sets.{contains-insert_code, contains-remove_code}
 use Rattle.pr_sets.proofs.lemmas.Members.{lt-suc, lt-zero}
 use Rattle.pr_unit.specs.inside.Told.{AreBelow}
-use Rattle.pr_unit.specs.Attentions.{pair_cmp, of_host}
+use Rattle.pr_unit.specs.Attentions.{pair_cmp}
+use Rattle.pr_unit.specs.Tables.{of_host}
 
 pub pair_cmp_total : IsTotalOrder pair_cmp
 pair_cmp_total = record {

@@ -1,10 +1,11 @@
 -- What a reset makes pending.
-use Rattle.pr_unit.proofs.Common.{◌≡◌, ℕ, zero, suc, ◌+◌, ◌<◌, Bool, true, false, ◌&&◌, ◌||◌, IsTrue, nat_lt, ◌==◌, sym, refl, ap, ◌∙◌, arith, false≢true, nat_tests, power_on, Pairs, each_with, hosts_below, or-false, contains-nobody}
+use Rattle.pr_unit.proofs.Common.{◌≡◌, ℕ, zero, suc, ◌+◌, ◌<◌, Bool, true, false, ◌&&◌, ◌||◌, IsTrue, nat_lt, UnitState, IsWellFormed, ◌==◌, sym, refl, ap, ◌∙◌, arith, false≢true, nat_tests, power_on, Pairs, each_with, hosts_below, or-false, contains-nobody}
 use Rattle.std.proofs.Common.{add-one}
 use Rattle.std.specs.FinSet as set
 use Rattle.pr_sets.proofs.lemmas.Members.{lt-suc, lt-zero}
 use Rattle.pr_attention.specs.Attentions.{is_attention}
 use Rattle.pr_registry.proofs.lemmas.Sets.{contains-insert}
+use Rattle.pr_unit.specs.UnitStates.{reset}
 use Rattle.pr_unit.specs.Laws.{ResetsTellEach, ResetsAreWellFormed}
 use Rattle.pr_unit.proofs.lemmas.Attentions.Pairs.{same_pairs, contains-insert-pair, contains-union-pairs, contains-each_with}
 
@@ -43,15 +44,22 @@ told_one old code n =
 pub pending-reset : ResetsTellEach
 pending-reset u h code = contains-told u.pending u.registry.hosts power_on h code
 
-pub well_formed-reset : ResetsAreWellFormed
-well_formed-reset u w = record {
+-- whichever attention each host is told, the state stays well formed
+pub well_formed-told : (u : UnitState) (hosts code : ℕ) (pending : Pairs) → pending ≡ set.union u.pending (each_with (hosts_below hosts) code)
+    → hosts ≡ u.registry.hosts → IsTrue (is_attention code) → IsWellFormed u → IsWellFormed (record { registry = u.registry; pending = pending })
+well_formed-told u hosts code pending told all known w = record {
   registry = w.registry;
-  pending = λ h code is. at h code (set.contains u.pending (h, code)) (nat_lt h u.registry.hosts) (code == power_on) refl refl refl (sym (pending-reset u h code) ∙ is);
+  pending = λ h x is. at h x (set.contains u.pending (h, x)) (nat_lt h hosts) (x == code) refl refl refl
+      (sym (ap (λ (p : Pairs). set.contains p (h, x)) told ∙ contains-told u.pending hosts code h x) ∙ is);
 }
   where
-    at : (h code : ℕ) (o l c : Bool) → set.contains u.pending (h, code) ≡ o → nat_lt h u.registry.hosts ≡ l → (code == power_on) ≡ c → (o || (l && c)) ≡ true
-        → (h < u.registry.hosts) × IsTrue (is_attention code)
-    at h code true l c there below is both = w.pending h code there
-    at h code false true true there below is both = (grind (arith, nat_tests), let same : code ≡ power_on = grind (arith, nat_tests) in rw same refl)
-    at h code false true false there below is both = absurd (false≢true both)
-    at h code false false c there below is both = absurd (false≢true both)
+    at : (h x : ℕ) (o l c : Bool) → set.contains u.pending (h, x) ≡ o → nat_lt h hosts ≡ l → (x == code) ≡ c → (o || (l && c)) ≡ true
+        → (h < u.registry.hosts) × IsTrue (is_attention x)
+    at h x true l c there below is both = w.pending h x there
+    at h x false true true there below is both =
+        (let small : h < hosts = grind (arith, nat_tests) in omega arith, let same : x ≡ code = grind (arith, nat_tests) in rw same known)
+    at h x false true false there below is both = absurd (false≢true both)
+    at h x false false c there below is both = absurd (false≢true both)
+
+pub well_formed-reset : ResetsAreWellFormed
+well_formed-reset u w = well_formed-told u u.registry.hosts power_on (reset u).pending refl refl refl w

@@ -3,6 +3,7 @@ use Rattle.pr_unit.proofs.Common.{◌≡◌, ℕ, ◌<◌, Bool, true, false, no
 use Rattle.std.specs.Prelude.{Ok}
 use Rattle.std.specs.FinSet as set
 use Rattle.pr_cdb.specs.Ranges.{FitsWhereRead}
+use Rattle.pr_unit.specs.TakenSteps.{TakenStep}
 use Rattle.pr_unit.specs.Follows.{IsFollowed}
 use Rattle.pr_unit.proofs.lemmas.Attentions.Pairs.{contains-remove-pair}
 use Rattle.pr_unit.proofs.lemmas.UnitStates.Effects.{effects_are_well_formed, hosts-after}
@@ -38,6 +39,10 @@ well_formed-step u h q r v w there fits step = by_decision (decision u h q) refl
     by_decision Attention is step = subst IsWellFormed (sym step.after) (well_formed-reported u h step.code w)
     by_decision Done is step = by_request q fits is step
     by_decision _ is step = subst IsWellFormed (sym step.1) w
+
+-- so does the step that the unit takes, whoever sends
+pub well_formed-taken : {u : UnitState} {h : ℕ} {q : Request} {r : Reply} {v : UnitState} → TakenStep u h q r v → IsWellFormed u → FitsWhereRead (Ok q) → h < u.registry.hosts → IsWellFormed v
+well_formed-taken {u} {h} {q} {r} {v} taken w fits there = well_formed-step u h q r v w there fits taken.step
 
 pub well_formed-followed : (u : UnitState) (h : ℕ) (q : Request) (r : Reply) (follows : Bool) (v : UnitState) → IsWellFormed u → h < u.registry.hosts → FitsWhereRead (Ok q)
     → IsFollowed u h q r follows v → IsWellFormed v

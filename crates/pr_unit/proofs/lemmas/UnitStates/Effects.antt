@@ -1,5 +1,5 @@
 -- A command without conflict and fault leaves a well formed state well formed.
-use Rattle.pr_unit.proofs.Common.{◌≡◌, ℕ, ◌<◌, Bool, true, false, not, ◌||◌, if◌then◌else◌, IsTrue, ◌==◌, Some, None, Option, sym, refl, ◌∙◌, subst, arith, false≢true, nat_tests, MOST_NEXUSES, Command, reservations_preempted, reservations_released, registrations_preempted, Pairs, each_with, UnitState, IsWellFormed, and_parts, Kind, Hosts, no_change, is_pending, effect, pending_after}
+use Rattle.pr_unit.proofs.Common.{◌≡◌, ℕ, ◌<◌, Bool, true, false, not, ◌||◌, if◌then◌else◌, IsTrue, ◌==◌, Some, None, Option, sym, refl, ◌∙◌, subst, arith, false≢true, nat_tests, MOST_NEXUSES, Command, reservations_preempted, reservations_released, registrations_preempted, Pairs, each_with, UnitState, IsWellFormed, and_parts, Kind, Hosts, is_pending, effect, pending_after}
 use Rattle.std.proofs.Common.{is_some}
 use Rattle.std.specs.FinSet as set
 use Rattle.std.specs.FinMap as map
@@ -10,16 +10,17 @@ use Rattle.pr_registry.specs.declared.held.Held.{Held}
 use Rattle.pr_registry.specs.declared.held.Held.TheVariants.{One, All}
 use Rattle.pr_registry.specs.Hosts.{Keys, just, without}
 use Rattle.pr_registry.specs.Registrations.{State, key_of, is_registered, IsWellFormed as IsWellFormedRegistry}
-use Rattle.pr_registry.specs.Changes.{Case, ReplacesAll, ReplacesHolder, RemovesKey, is_held_by_all, preempt_case, is_replacing, HasKindIfReplacing, removed_by_preempt, change_on_unregister}
-use Rattle.pr_registry.specs.Effects.{without_registration}
+use Rattle.pr_registry.specs.Changes.{Case, ReplacesAll, ReplacesHolder, RemovesKey, is_held_by_all, preempt_case, is_replacing, removed_by_preempt}
+use Rattle.pr_registry.specs.Premises.{HasKindIfReplacing}
 use Rattle.pr_registry.proofs.lemmas.Sets.{get-insert, get-empty, get-without}
 use Rattle.pr_registry.proofs.lemmas.States.{well_formed-registered, well_formed-unregistered, well_formed-reserved, well_formed-released, well_formed-cleared, well_formed-preempted}
 use Rattle.pr_registry.proofs.lemmas.ToldRegistrants.{AreOthers, TellsOthers, tells_nobody, tells_on_unregister, tells_on_release, tells_on_clear, tells_on_preempt}
 use Rattle.pr_unit.specs.declared.demand.Demand.TheVariants.{Register, Unregister, Reserve, Release, Clear, PreemptAll, Preempt}
 use Rattle.pr_unit.specs.Attentions.{is_attention}
-use Rattle.pr_unit.specs.Demands.{Asked, demand_of, named}
-use Rattle.pr_unit.specs.Conduct.{illegal, preempt_fault, preempt_all_fault, conduct}
-use Rattle.pr_unit.specs.UnitStates.{after, change}
+use Rattle.pr_unit.specs.Demands.{Asked, demand_of}
+use Rattle.pr_unit.specs.NamedKeys.{named}
+use Rattle.pr_unit.specs.Conduct.{illegal, preempt_fault, preempt_all_fault, leaves, unregistering, conduct}
+use Rattle.pr_unit.specs.UnitStates.{registry_after, change}
 use Rattle.pr_unit.specs.Laws.{EffectsAreWellFormed}
 use Rattle.pr_unit.specs.inside.Readiness.{IsReady}
 use Rattle.pr_unit.specs.inside.Told.{AreBelow, TellsBelow}
@@ -43,7 +44,7 @@ has_kind-all u kind none = at u.held none
     at None none = let bad : Some (illegal INVALID_FIELD_IN_PARAMETER_LIST 0) ≡ None = none in cc
     at (Some (One t g)) none = let bad : Some (illegal INVALID_FIELD_IN_PARAMETER_LIST 0) ≡ None = none in cc
 
-well_formed-unregister : (u : State) (h : ℕ) (there : Bool) → IsWellFormedRegistry u → IsWellFormedRegistry (if there then without_registration u h else u)
+well_formed-unregister : (u : State) (h : ℕ) (there : Bool) → IsWellFormedRegistry u → IsWellFormedRegistry (if there then unregistering u h else leaves u).after
 well_formed-unregister u h true w = well_formed-unregistered u h w
 well_formed-unregister u h false w = w
 
@@ -58,7 +59,7 @@ well_formed-after u h (Preempt key kind) w there ready small whole = well_formed
 well_formed-after u h _ w there ready small whole = w
 
 -- no command changes how many hosts there are
-hosts-unregister : (u : State) (h : ℕ) (there : Bool) → (if there then without_registration u h else u).hosts ≡ u.hosts
+hosts-unregister : (u : State) (h : ℕ) (there : Bool) → (if there then unregistering u h else leaves u).after.hosts ≡ u.hosts
 hosts-unregister u h true = refl
 hosts-unregister u h false = refl
 
@@ -66,11 +67,11 @@ hosts-by : (u : State) (h : ℕ) (o : Asked) → (conduct u h o).after.hosts ≡
 hosts-by u h Unregister = hosts-unregister u h (is_registered u h)
 hosts-by u h _ = refl
 
-pub hosts-after : (u : State) (h : ℕ) (c : Command) → (after u h c).hosts ≡ u.hosts
+pub hosts-after : (u : State) (h : ℕ) (c : Command) → (registry_after u h c).hosts ≡ u.hosts
 hosts-after u h c = hosts-by u h (demand_of c)
 
 -- only other registrants are told
-tells_unregister : (u : State) (h : ℕ) (there : Bool) → TellsOthers u h (if there then change_on_unregister u h else no_change)
+tells_unregister : (u : State) (h : ℕ) (there : Bool) → TellsOthers u h (if there then unregistering u h else leaves u).change
 tells_unregister u h true = tells_on_unregister u h
 tells_unregister u h false = tells_nobody u h
 
@@ -164,7 +165,7 @@ module _ (P : Option ℕ → Type 0) (none : P None) where
   key_without : (keys : Keys) (removed : Hosts) (g : ℕ) → P (map.get keys g) → P (map.get (without keys removed) g)
   key_without keys removed g is = subst P (sym (get-without keys removed g)) (key_if (set.contains removed g) None (map.get keys g) none is)
 
-  key_unregister : (u : State) (h g : ℕ) (there : Bool) → P (key_of u g) → P (key_of (if there then without_registration u h else u) g)
+  key_unregister : (u : State) (h g : ℕ) (there : Bool) → P (key_of u g) → P (key_of (if there then unregistering u h else leaves u).after g)
   key_unregister u h g true is = key_without u.keys (just h) g is
   key_unregister u h g false is = is
 

@@ -6,10 +6,10 @@ use Rattle.std.proofs.lemmas.Option.{slice_get_within, get_or_from_slice_get}
 use Rattle.pr_attention.specs.Attentions.{is_attention}
 use Rattle.pr_attention.specs.Flagged.{codes_of}
 use Rattle.pr_attention.proofs.lemmas.Bits.{AreAttentions-codes_of}
-use Rattle.pr_registry.specs.Hosts.{map_where}
+use Rattle.pr_registry.specs.Tables.{map_where}
 use Rattle.pr_registry.specs.Registrations.{HasHolder, IsKey, key_of}
 use Rattle.pr_registry.proofs.lemmas.Sets.{get-map_where, not_empty_from_some}
-use Rattle.pr_unit.specs.Attentions.{of_host}
+use Rattle.pr_unit.specs.Tables.{of_host}
 use Rattle.pr_unit.specs.UnitStates.{IsWellFormed}
 use Rattle.pr_unit.proofs.lemmas.Attentions.Pairs.{contains-of_host}
 use Rattle.pr_roles.specs.Keys.{key_at}

@@ -1,5 +1,5 @@
 use Rattle.std.proofs.Common.{◌≡◌, rules}
-use Rattle.pr_attention.specs.Attentions.{AreAttentions}
+use Rattle.pr_attention.specs.CodeSets.{AreAttentions}
 use Rattle.pr_attention.proofs.lemmas.Bits.{AreAttentions-codes_of}
 use Rattle.pr_attention.proofs.lemmas.LowestCodes.{first_in, IsLowest-first_in, no_code-first_in}
 use Rattle.pr_attention.proofs.pending.Pending.lowest.Goals as goal

@@ -1,5 +1,6 @@
 use Rattle.pr_registry.proofs.Common.{◌≤◌, length, sym, refl, ◌∙◌, subst, arith, false≢true, nat_tests, IsWellFormed}
-use Rattle.pr_registry.specs.Registrations.{HasHolder, state_from}
+use Rattle.pr_registry.specs.Registrations.{HasHolder}
+use Rattle.pr_registry.specs.Tables.{state_from}
 use Rattle.pr_registry.proofs.lemmas.States.{are_keys-from, well_formed-from}
 use Rattle.pr_registry.proofs.registry.Registry.from_parts.Goals as goal
 

@@ -1,5 +1,5 @@
 use Rattle.pr_registry.proofs.Common.{◌≡◌, ℕ, None, sym, subst, MOST_NEXUSES, IsWellFormed, state_of}
-use Rattle.pr_registry.specs.Registrations.{empty_registry}
+use Rattle.pr_registry.specs.Tables.{empty_registry}
 use Rattle.pr_registry.proofs.lemmas.States.{well_formed-fresh, nones, table_keys-none}
 use Rattle.pr_registry.proofs.registry.Registry.new.Goals as goal
 

@@ -1,6 +1,6 @@
 use Rattle.pr_registry.proofs.Common.{IsTrue, sym, ap, ◌∙◌, subst, preempt_case, removed_by_preempt, is_registered, IsWellFormed, state_of}
 use Rattle.pr_registry.specs.declared.change.Change.{Change}
-use Rattle.pr_registry.specs.Changes.{HasKindIfReplacing}
+use Rattle.pr_registry.specs.Premises.{HasKindIfReplacing}
 use Rattle.pr_registry.specs.inside.Cases.{case_of}
 use Rattle.pr_registry.proofs.lemmas.States.{state_of-preempted, well_formed-preempted}
 use Rattle.pr_registry.proofs.registry.Registry.preempt.Goals as goal
