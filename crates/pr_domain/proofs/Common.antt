@@ -21,7 +21,7 @@ pub use Rattle.pr_registry.specs.Registrations.{State, key_of}
 pub use Rattle.pr_registry.specs.declared.held.Held.{Held}
 pub use Rattle.pr_registry.specs.declared.held.Held.TheVariants.{One}
 pub use Rattle.pr_unit.specs.Conduct.{command_conflicts, command_fault}
-pub use Rattle.pr_unit.specs.Demands.{is_refused}
+pub use Rattle.pr_unit.specs.Demands.{is_not_admitted}
 pub use Rattle.pr_unit.specs.Replies.{good, check, conflict, report, data_of}
 pub use Rattle.pr_unit.specs.Steps.{Step}
 pub use Rattle.pr_unit.specs.UnitStates.{UnitState, is_pending, is_any_pending, IsWellFormed, effect, after_report}

@@ -11,7 +11,7 @@ ghost use Rattle.pr_sets.specs.Wides.{has_wide};
 ghost use Rattle.pr_views.specs.declared.view.TheConstants.{MOST_REGISTRATIONS};
 ghost use Rattle.pr_roles.specs.Keys.{key_at};
 ghost use Rattle.pr_regions.specs.Purposes.{HasNumber};
-ghost use Rattle.pr_unit.specs.Demands.{is_refused};
+ghost use Rattle.pr_unit.specs.Demands.{is_not_admitted};
 ghost use Rattle.pr_regions.specs.Regions.{HasRoom, standing_of};
 ghost use Rattle.pr_domain.specs.inside.Tallies.{AddsBranch, AddsBranches, AddsAccepted, AddsRefused, AddsReading, AddsReadings, AreTallied, way_of};
 ghost use Rattle.pr_domain.specs.inside.TestedCommands.{AddsSenders, AddsReservation, AreAlike, IsTallyOf};
@@ -30,7 +30,7 @@ use pr_roles::key_at;
 use pr_script::Class;
 use pr_script::limits::MOST_ARMS;
 use pr_sets::{BitSet, Wide};
-use pr_unit::is_refused;
+use pr_unit::is_not_admitted;
 use pr_views::{MOST_REGISTRATIONS, Possibilities, count_of_reservations};
 
 /// The arm that takes the data of GOOD, counted from 1, or 0 where none does.
@@ -225,7 +225,7 @@ fn add_alike(
     requires alike { AreAlike asked.now registration alike }
     ensures { AddsSenders view.now place asked.now alike tally.old tally.new }
 {
-    if is_refused(key_at(asked.keys, registration), asked.command) {
+    if is_not_admitted(key_at(asked.keys, registration), asked.command) {
         add_refused(tally, view, place, alike);
     } else if is_reading(asked.command) {
         let readings = readings(
@@ -256,13 +256,13 @@ fn is_left_so(
 ) -> bool
     requires { registration < MOST_REGISTRATIONS }
     ensures left { IsTrue result → has left registration ≡ true }
-    ensures refused { IsTrue result → is_refused (key_at asked.now.keys.now registration)
+    ensures refused { IsTrue result → is_not_admitted (key_at asked.now.keys.now registration)
         asked.now.command ≡ refused }
     ensures stands { IsTrue result → standing_of purpose registration ≡ standing }
 {
     left.has(registration)
         && standing_of(purpose, registration) == standing
-        && is_refused(key_at(asked.keys, registration), asked.command) == refused
+        && is_not_admitted(key_at(asked.keys, registration), asked.command) == refused
 }
 
 // Of the registrations that are left those that are alike to this one, so that one look at a reservation serves all of them.
@@ -276,7 +276,7 @@ fn alike_to(asked: &TestedCommand, left: BitSet, registration: u8) -> BitSet
     if is_reading(asked.command) {
         return alike;
     }
-    let refused = is_refused(key_at(asked.keys, registration), asked.command);
+    let refused = is_not_admitted(key_at(asked.keys, registration), asked.command);
     let purpose = purpose_of(asked.command, asked.keys);
     let standing = standing_of(purpose, registration);
     for other in 0..MOST_REGISTRATIONS {

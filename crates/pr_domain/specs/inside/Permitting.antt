@@ -1,5 +1,5 @@
 -- Whether a role permits a host's command, wherever the command ends GOOD.
-use Rattle.std.specs.Prelude.{◌≡◌, ℕ, Bool, true, false, ◌&&◌, IsTrue, List, [], None}
+use Rattle.std.specs.Prelude.{◌≡◌, ℕ, Bool, true, false, ◌&&◌, ◌||◌, IsTrue, List, [], None, is_some}
 use Rattle.std.specs.List.{list_any}
 use Rattle.pr_cdb.specs.declared.command.Command.{Command}
 use Rattle.pr_unit.specs.UnitStates.{UnitState}
@@ -11,8 +11,9 @@ use Rattle.pr_views.specs.declared.possibilities.Possibilities.{Possibilities}
 use Rattle.pr_views.specs.Possibilities.{Scope, Reservation, Attentions, IsSo}
 use Rattle.pr_views.specs.Views.{View, Shows, Fits}
 use Rattle.pr_views.specs.Portions.{view_in}
-use Rattle.pr_regions.specs.Conditions.{holds_as}
+use Rattle.pr_regions.specs.Conditions.{holds_as, is_holder_as}
 use Rattle.pr_regions.specs.declared.place.Place.{Place}
+use Rattle.pr_domain.specs.declared.permitting.Naming.{Naming}
 use Rattle.pr_domain.specs.declared.tested.TestedCommand.{TestedCommand}
 use Rattle.pr_domain.specs.inside.Tallies.{scope_at}
 
@@ -45,6 +46,15 @@ permits_at clause c place registered = names clause.action c && holds_as clause.
 -- some clause does
 abbrev pub is_one_permitting : List Clause → Command → Place → Bool → Bool
 is_one_permitting clauses c place registered = list_any (λ clause. permits_at clause c place registered) clauses
+
+-- by the conditions under which clauses permit it
+abbrev pub naming_permits : Naming → Place → Bool → Bool
+naming_permits n place registered =
+    n.freely || ((n.if_registered && registered) || ((n.if_holder && is_holder_as place.held place.sender registered) || (n.if_reserved && is_some place.held)))
+
+-- these conditions permit the command to whom some clause does
+abbrev pub IsNaming : List Clause → Command → Naming → Type 0
+IsNaming clauses c n = (place : Place) (registered : Bool) → is_one_permitting clauses c place registered ≡ naming_permits n place registered
 
 -- ---- what the walk over a view answers
 

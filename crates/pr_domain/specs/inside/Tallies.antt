@@ -6,7 +6,7 @@ use Rattle.std.specs.Option.{option_map_or}
 use Rattle.pr_cdb.specs.declared.command.Command.{Command}
 use Rattle.pr_unit.specs.UnitStates.{UnitState, effect}
 use Rattle.pr_unit.specs.Conduct.{command_conflicts, command_fault}
-use Rattle.pr_unit.specs.Demands.{is_refused}
+use Rattle.pr_unit.specs.Demands.{is_not_admitted}
 use Rattle.pr_unit.specs.Replies.{good, data_of}
 use Rattle.pr_script.specs.declared.script.Test.{Test}
 use Rattle.pr_script.specs.Grammar.{is_read_keys, is_read_reservation}
@@ -136,7 +136,7 @@ pub record IsAsked (s : Scope) (c : Command) (tests : List Test) (view : Possibi
   pub uniform : IsUniform senders
   pub asks : purpose_of s.keys c ≡ Some purpose
   pub stands : (r : ℕ) → has senders r ≡ true → standing_of purpose r ≡ standing
-  pub accepted : (r : ℕ) → has senders r ≡ true → is_refused (key_at s.keys r) c ≡ false
+  pub accepted : (r : ℕ) → has senders r ≡ true → is_not_admitted (key_at s.keys r) c ≡ false
   pub taken : (u : State) → first_test tests (good (data_of u c)) ≡ arm_of arm
 
 -- The reservation key of the command is not accepted from a sender with one of these registrations.
@@ -144,7 +144,7 @@ pub record IsRefusedAt (s : Scope) (c : Command) (view : Possibilities) (place :
   pub own : place.sender ≡ s.own
   pub is : IsPlace s view place
   pub uniform : IsUniform senders
-  pub refused : (r : ℕ) → has senders r ≡ true → is_refused (key_at s.keys r) c ≡ true
+  pub refused : (r : ℕ) → has senders r ≡ true → is_not_admitted (key_at s.keys r) c ≡ true
 
 -- ---- one reservation
 

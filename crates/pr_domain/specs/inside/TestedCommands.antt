@@ -10,7 +10,7 @@ use Rattle.pr_views.specs.Portions.{view_in}
 use Rattle.pr_regions.specs.declared.place.Place.{Place}
 use Rattle.pr_regions.specs.Purposes.{Purpose, purpose_of}
 use Rattle.pr_regions.specs.Gathering.{IsUniform}
-use Rattle.pr_unit.specs.Demands.{is_refused}
+use Rattle.pr_unit.specs.Demands.{is_not_admitted}
 use Rattle.pr_regions.specs.Regions.{standing_of}
 use Rattle.pr_domain.specs.declared.tally.Tally.{Tally}
 use Rattle.pr_domain.specs.declared.tested.TestedCommand.{TestedCommand}
@@ -20,7 +20,7 @@ use Rattle.pr_domain.specs.inside.Tallies.{Grows, HasOneOf, IsReserved, IsOwners
 -- one does to what it is for. A command that reads tells each from the others.
 pub record AreAlike (q : TestedCommand) (registration : ℕ) (alike : BitSet) : Type 0 where
   pub itself : has alike registration ≡ true
-  pub refused : (r : ℕ) → has alike r ≡ true → is_refused (key_at q.keys.now r) q.command ≡ is_refused (key_at q.keys.now registration) q.command
+  pub refused : (r : ℕ) → has alike r ≡ true → is_not_admitted (key_at q.keys.now r) q.command ≡ is_not_admitted (key_at q.keys.now registration) q.command
   pub stands : (purpose : Purpose) → purpose_of q.keys.now q.command ≡ Some purpose → (r : ℕ) → has alike r ≡ true → standing_of purpose r ≡ standing_of purpose registration
   pub uniform : IsUniform alike
   pub read : (is_read_keys q.command || is_read_reservation q.command) ≡ true → (r : ℕ) → has alike r ≡ true → r ≡ registration

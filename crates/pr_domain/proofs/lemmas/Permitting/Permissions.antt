@@ -10,7 +10,7 @@ use Rattle.pr_regions.specs.Conditions.{holds_as}
 use Rattle.pr_regions.proofs.lemmas.Conditions.Senders.{holds_by}
 use Rattle.pr_domain.specs.declared.tested.TestedCommand.{TestedCommand}
 use Rattle.pr_domain.specs.inside.Tallies.{IsFound}
-use Rattle.pr_domain.specs.inside.Permitting.{ArePermitted, permits_at, is_one_permitting, view_of_asker, IsAsking, PermitsAt, RefusesAt, PermitsAll}
+use Rattle.pr_domain.specs.inside.Permitting.{ArePermitted, IsServed, permits_at, is_one_permitting, view_of_asker, IsAsking, PermitsAt, RefusesAt, PermitsAll}
 
 -- ---- clauses
 
@@ -36,11 +36,9 @@ permits_same u place keys r c (clause ∷ rest) held small is =
 
 -- ---- one place
 
-module _ (q : TestedCommand) (place : Place) (view : Possibilities) (clauses : List Clause) (there senders : BitSet) (none new : Tally)
+module _ (q : TestedCommand) (place : Place) (view : Possibilities) (clauses : List Clause) (there senders : BitSet)
     (asking : IsAsking q place.hosts place.sender view) (possible : has_wide view.reservations place.reservation ≡ true)
     (here : (r : ℕ) → has_at view.registrations place.sender r ≡ true → has there r ≡ true) (are : (r : ℕ) → has senders r ≡ (has there r && not (is_one_permitting clauses q.command place (not (r == 0)))))
-    (nothing : (way : ℕ) (i : Item) → has_tallied none way i ≡ false)
-    (grows : Grows (view_of_asker q place.hosts place.sender view) q.command q.tests.now none new (HasOneOf (scope_at q.keys.now place.hosts place.sender) place senders))
   where
     by_number : (r : ℕ) (u : UnitState) → Shows (view_of_asker q place.hosts place.sender view) u → IsUnder (scope_at q.keys.now place.hosts place.sender) place u
         → r ≤ length q.keys.now → key_of u.registry place.sender ≡ key_at q.keys.now r
@@ -49,20 +47,39 @@ module _ (q : TestedCommand) (place : Place) (view : Possibilities) (clauses : L
         permits_same u.registry place q.keys.now r q.command clauses
         (same_reservation (scope_at q.keys.now place.hosts place.sender) view place u (record { hosts = refl; fits = asking.fits; possible = possible }) shown under) small is
 
-    -- where no clause permits it and it ends GOOD, some reservation is found of that way
-    pub permitted_at : ((x : ℕ) → has_tallied new 3 (Reservation x) ≡ false) → PermitsAt q place view clauses
-    permitted_at empty u shown under served =
+    -- where no state has one of those whom no clause permits it
+    permitted_unless : ((r : ℕ) (u : UnitState) → Shows (view_of_asker q place.hosts place.sender view) u → IsUnder (scope_at q.keys.now place.hosts place.sender) place u
+        → IsSo (scope_at q.keys.now place.hosts place.sender) u (Registration place.sender r) → IsServed (scope_at q.keys.now place.hosts place.sender) q.command u → has senders r ≡ true → ⊥)
+        → PermitsAt q place view clauses
+    permitted_unless nowhere u shown under served =
         let seen = shown.registrations place.sender place.there in
         at seen.0 (is_one_permitting clauses q.command place (not (seen.0 == 0))) seen.1.0.1 seen.1.1 refl
       where
         at : (r : ℕ) (b : Bool) → has_at view.registrations place.sender r ≡ true → IsSo (scope_at q.keys.now place.hosts place.sender) u (Registration place.sender r)
             → is_one_permitting clauses q.command place (not (r == 0)) ≡ b → IsTrue (list_any (λ clause. clause_permits clause u.registry place.sender q.command) clauses)
         at r true may so is = by_number r u shown under so.1 so.2 ∙ is
-        at r false may so is =
+        at r false may so is = absurd (nowhere r u shown under so served (are r ∙ and_from _ _ (here r may) (ap not is)))
+
+    -- where some clause permits it with each registration
+    pub permitted_to_all : ((r : ℕ) → has senders r ≡ false) → PermitsAt q place view clauses
+    permitted_to_all nobody = permitted_unless (λ r u shown under so served one. false≢true (sym (nobody r) ∙ one))
+
+module _ (q : TestedCommand) (place : Place) (view : Possibilities) (clauses : List Clause) (there senders : BitSet) (none new : Tally)
+    (asking : IsAsking q place.hosts place.sender view) (possible : has_wide view.reservations place.reservation ≡ true)
+    (here : (r : ℕ) → has_at view.registrations place.sender r ≡ true → has there r ≡ true) (are : (r : ℕ) → has senders r ≡ (has there r && not (is_one_permitting clauses q.command place (not (r == 0)))))
+    (nothing : (way : ℕ) (i : Item) → has_tallied none way i ≡ false)
+    (grows : Grows (view_of_asker q place.hosts place.sender view) q.command q.tests.now none new (HasOneOf (scope_at q.keys.now place.hosts place.sender) place senders))
+  where
+    -- where no clause permits it and it ends GOOD, some reservation is found of that way
+    pub permitted_at : ((x : ℕ) → has_tallied new 3 (Reservation x) ≡ false) → PermitsAt q place view clauses
+    permitted_at empty = permitted_unless q place view clauses there senders asking possible here are found
+      where
+        found : (r : ℕ) (u : UnitState) → Shows (view_of_asker q place.hosts place.sender view) u → IsUnder (scope_at q.keys.now place.hosts place.sender) place u
+            → IsSo (scope_at q.keys.now place.hosts place.sender) u (Registration place.sender r) → IsServed (scope_at q.keys.now place.hosts place.sender) q.command u → has senders r ≡ true → ⊥
+        found r u shown under so served one =
             let left = number_of place.hosts (effect u place.sender q.command).registry.held in
-            absurd (false≢true (sym (empty left) ∙ grows.all u 3 (Reservation left) shown
-            (r, are r ∙ and_from _ _ (here r may) (ap not is), (under, so))
-            (served.free, served.whole, ap (λ tests. first_test tests (good (data_of u.registry q.command))) asking.untested, refl)))
+            false≢true (sym (empty left) ∙ grows.all u 3 (Reservation left) shown (r, one, (under, so))
+            (served.free, served.whole, ap (λ tests. first_test tests (good (data_of u.registry q.command))) asking.untested, refl))
 
     -- a reservation that is found of that way is of a state in which it ends GOOD and no clause permits it
     pub refused_at : (x : ℕ) → has_tallied new 3 (Reservation x) ≡ true → RefusesAt q place view clauses
@@ -79,7 +96,7 @@ module _ (q : TestedCommand) (place : Place) (view : Possibilities) (clauses : L
               shown = found.shown;
               reserved = found.among.2.0;
               served = record { idle = found.pending; free = found.leaves.0; whole = found.leaves.1 };
-              refused = by_number r found.unit found.shown found.among.2.0 found.among.2.1.1 found.among.2.1.2
+              refused = by_number q place view clauses there senders asking possible here are r found.unit found.shown found.among.2.0 found.among.2.1.1 found.among.2.1.2
                   ∙ not-true (is_one_permitting clauses q.command place (not (r == 0))) unpermitted;
             }
 

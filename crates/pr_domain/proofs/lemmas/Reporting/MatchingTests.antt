@@ -3,7 +3,7 @@ use Rattle.pr_domain.proofs.Common.{◌≡◌, ◌&&◌, List, [], sym, refl, �
 use Rattle.std.specs.List.{position}
 use Rattle.pr_cdb.specs.Statuses.{is_check_status}
 use Rattle.pr_script.specs.declared.script.Test.TheVariants as test
-use Rattle.pr_script.specs.Takes.{is_attention, is_sense}
+use Rattle.pr_script.specs.Takes.{is_unit_attention, is_sense}
 use Rattle.pr_script.specs.declared.landing.Class.TheVariants.{Sense as WithSense}
 use Rattle.pr_regions.proofs.lemmas.Readings.ReservationArms.{position_alike}
 use Rattle.pr_domain.specs.inside.Reporting.{IsBlind, takes, AreBlind}
@@ -14,7 +14,7 @@ IsBlindTo Good t = IsBlind t
 IsBlindTo _ t = Unit {0}
 
 matches_class : (t : Test) (class : Class) (r : Reply) → IsClass r class → IsBlindTo class t → matches t r ≡ takes t class
-matches_class test.Attention (WithSense s) r is blind = λ i. is_check_status (is.0 i) && is_attention (is.1 i)
+matches_class test.Attention (WithSense s) r is blind = λ i. is_check_status (is.0 i) && is_unit_attention (is.1 i)
 matches_class (test.Sense wanted) (WithSense s) r is blind = λ i. is_check_status (is.0 i) && is_sense (is.1 i) wanted
 matches_class _ (WithSense s) r is blind = rw is.0 refl
 matches_class _ Good r is blind = sym (blind r []) ∙ rw is refl

@@ -8,7 +8,7 @@ use Rattle.pr_unit.specs.Demands.{demand_of}
 use Rattle.pr_attention.proofs.lemmas.Sets.{same_codes, contains-no_code, contains-remove_code}
 use Rattle.pr_attention.proofs.lemmas.Bits.{same_bits, codes_of-zero, AreAttentions-codes_of}
 use Rattle.pr_attention.proofs.lemmas.FourCodes.{which}
-use Rattle.pr_unit.specs.UnitStates.{after}
+use Rattle.pr_unit.specs.UnitStates.{registry_after}
 use Rattle.pr_unit.proofs.lemmas.Attentions.Pairs.{contains-remove-pair}
 use Rattle.pr_unit.proofs.lemmas.UnitStates.Effects.{own_pending, key_by}
 use Rattle.pr_script.specs.Grammar.{is_declared}
@@ -81,7 +81,7 @@ numbered_key : (keys : List ℕ) (k : ℕ) → is_declared keys k ≡ true → I
 numbered_key keys k is = let i = place_of_key keys k is in (suc i.0, slice_get_within keys i.0 k i.1, sym i.1)
 
 -- what a text can write registers declared keys alone
-pub numbered_after : (keys : List ℕ) (u : State) (h : ℕ) (c : Command) (g : ℕ) → is_written keys c ≡ true → IsNumbered keys (key_of u g) → IsNumbered keys (key_of (after u h c) g)
+pub numbered_after : (keys : List ℕ) (u : State) (h : ℕ) (c : Command) (g : ℕ) → is_written keys c ≡ true → IsNumbered keys (key_of u g) → IsNumbered keys (key_of (registry_after u h c) g)
 numbered_after keys u h c g written is =
     key_by (IsNumbered keys) (numbered_none keys) u h g (demand_of c) is
     (λ k names. numbered_key keys k (sym (ap (λ (o : Option ℕ). option_map_or (is_declared keys) o true) names) ∙ written_declared keys c written))

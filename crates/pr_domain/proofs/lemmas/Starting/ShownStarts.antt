@@ -1,7 +1,7 @@
 -- Starts that a view of the alternatives shows: with nothing pending for the others they are allowed.
 use Rattle.pr_domain.proofs.Common.{◌≡◌, ℕ, ◌<◌, true, ◌&&◌, ◌==◌, Some, Contains, sym, refl, ap, ◌∙◌, subst, and_parts, has_wide, codes_of, UnitState, is_pending, IsWellFormed, is_reservation, Scenario, nexus, view_in, Scope, Item, Attentions, IsSo, Shows, Possibilities, reservation_of, AreAlternatives, eq-eqb, eqb-true}
 use Rattle.std.specs.FinSet as set
-use Rattle.pr_unit.specs.Attentions.{of_host}
+use Rattle.pr_unit.specs.Tables.{of_host}
 use Rattle.pr_unit.proofs.lemmas.Attentions.Pairs.{contains-of_host}
 use Rattle.pr_unit.proofs.lemmas.UnitStates.AlikeStates.{IsLike}
 use Rattle.pr_domain.specs.Starting.{StartsSo}

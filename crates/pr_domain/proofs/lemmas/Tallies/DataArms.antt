@@ -1,5 +1,5 @@
 -- READ KEYS and READ RESERVATION: which arm takes their data.
-use Rattle.pr_domain.proofs.Common.{◌≡◌, ℕ, ◌<◌, ◌≤◌, true, false, ◌||◌, List, length, IfSome, IfNone, ◌==◌, Some, None, All, Any, Option, sym, refl, ap, ◌∙◌, subst, arith, false≢true, and_parts, nat_tests, has, BitSet, Command, State, key_of, good, data_of, UnitState, test_fits, matches, Test, view_in, Scope, Shows, Possibilities, one_registration, IsPlace, IsAt, purpose_of, is_refused, first_test, standing_of, Place, Branch, Reading, Transition, same_reservation, arm_of, IsRight, HasBoth, IsOwners, IsReadAt, MOST_ARMS}
+use Rattle.pr_domain.proofs.Common.{◌≡◌, ℕ, ◌<◌, ◌≤◌, true, false, ◌||◌, List, length, IfSome, IfNone, ◌==◌, Some, None, All, Any, Option, sym, refl, ap, ◌∙◌, subst, arith, false≢true, and_parts, nat_tests, has, BitSet, Command, State, key_of, good, data_of, UnitState, test_fits, matches, Test, view_in, Scope, Shows, Possibilities, one_registration, IsPlace, IsAt, purpose_of, is_not_admitted, first_test, standing_of, Place, Branch, Reading, Transition, same_reservation, arm_of, IsRight, HasBoth, IsOwners, IsReadAt, MOST_ARMS}
 use Rattle.std.proofs.Common.{position}
 use Rattle.std.proofs.lemmas.List.Elements.{All-weaker, Contains-get_or}
 use Rattle.std.proofs.lemmas.List.Quantifiers.{position-Some}
@@ -62,7 +62,7 @@ at_read s view place r w b u is only shown read = record {
 -- ---- what is known of them
 
 -- a command whose purpose is to look, and whose key is accepted
-ends_so : (s : Scope) (view : Possibilities) (place : Place) (r : ℕ) (c : Command) → purpose_of s.keys c ≡ Some Look → ((k : Option ℕ) → is_refused k c ≡ false) → place.sender ≡ s.own → IsPlace s view place
+ends_so : (s : Scope) (view : Possibilities) (place : Place) (r : ℕ) (c : Command) → purpose_of s.keys c ≡ Some Look → ((k : Option ℕ) → is_not_admitted k c ≡ false) → place.sender ≡ s.own → IsPlace s view place
     → (change : Transition) → Does change None never place.reservation tells_nobody → (u : UnitState) → Shows (view_in s view) u → HasBoth s place r u → Ends s s.own (ending.Good change) u c
 ends_so s view place r c asks accepted own is change does u shown both =
     subst (λ n. Ends s n (ending.Good change) u c) own

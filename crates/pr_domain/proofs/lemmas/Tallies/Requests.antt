@@ -1,5 +1,5 @@
 -- What a sender with one of some registrations asks for, and how that ends.
-use Rattle.pr_domain.proofs.Common.{◌≡◌, ℕ, zero, suc, ◌<◌, Bool, true, false, List, if◌then◌else◌, get_or, nat_lt, ◌==◌, Some, None, All, Any, Option, option_map, sym, refl, ap, ◌∙◌, subst, arith, false≢true, or_left, nat_tests, has, BitSet, Command, State, key_of, Held, One, command_conflicts, UnitState, Test, view_in, Scope, Registration, IsSo, Shows, Possibilities, one_registration, IsPlace, IsUniform, IsAt, is_refused, standing_of, AreBranches, Place, Branch, Region, same_reservation, IsRight, MOST_REGISTRATIONS}
+use Rattle.pr_domain.proofs.Common.{◌≡◌, ℕ, zero, suc, ◌<◌, Bool, true, false, List, if◌then◌else◌, get_or, nat_lt, ◌==◌, Some, None, All, Any, Option, option_map, sym, refl, ap, ◌∙◌, subst, arith, false≢true, or_left, nat_tests, has, BitSet, Command, State, key_of, Held, One, command_conflicts, UnitState, Test, view_in, Scope, Registration, IsSo, Shows, Possibilities, one_registration, IsPlace, IsUniform, IsAt, is_not_admitted, standing_of, AreBranches, Place, Branch, Region, same_reservation, IsRight, MOST_REGISTRATIONS}
 use Rattle.std.proofs.lemmas.Bool.{lt-ltb}
 use Rattle.std.proofs.lemmas.List.Elements.{Contains-get_or}
 use Rattle.pr_registry.specs.declared.held.Held.TheVariants.{All as Everybody}
@@ -28,7 +28,7 @@ only_uniform r w only none m there =
 pub alone_alike : (q : TestedCommand) (registration : ℕ) (w : BitSet) → ((m : ℕ) → has w m ≡ (m == registration)) → AreAlike q registration w
 alone_alike q registration w only = record {
   itself = only registration ∙ grind (arith, nat_tests);
-  refused = λ r among. ap (λ n. is_refused (key_at q.keys.now n) q.command) (same r among);
+  refused = λ r among. ap (λ n. is_not_admitted (key_at q.keys.now n) q.command) (same r among);
   stands = λ purpose asks r among. ap (standing_of purpose) (same r among);
   uniform = only_uniform registration w only;
   read = λ reads r among. same r among;
@@ -80,7 +80,7 @@ meets s c tests view place purpose arm w standing u asked shown one = record {
   held = same_reservation s view place u asked.is shown one.2.0;
   standing = λ t so. asked.stands t (among_senders s view place w u asked.is one t so);
   purpose = asked.asks;
-  accepted = subst (λ k. is_refused k c ≡ false) (sym one.2.1.2) (asked.accepted one.0 one.1);
+  accepted = subst (λ k. is_not_admitted k c ≡ false) (sym one.2.1.2) (asked.accepted one.0 one.1);
 }
 
 pub asked_right : (s : Scope) (c : Command) (tests : List Test) (view : Possibilities) (place : Place) (purpose : Purpose) (arm : ℕ) (w : BitSet) (standing : Standing) (branches : List Branch)
@@ -120,8 +120,8 @@ asked_back s c tests view place purpose arm w standing branches asked u any = se
 -- ---- a key that is not accepted
 
 -- it is a conflict
-pub refused_conflicts : (u : State) (h : ℕ) (c : Command) → is_refused (key_of u h) c ≡ true → command_conflicts u h c ≡ true
-refused_conflicts u h c is = or_left (is_refused (key_of u h) c) (conduct u h (demand_of c)).kept is
+pub refused_conflicts : (u : State) (h : ℕ) (c : Command) → is_not_admitted (key_of u h) c ≡ true → command_conflicts u h c ≡ true
+refused_conflicts u h c is = or_left (is_not_admitted (key_of u h) c) (conduct u h (demand_of c)).kept is
 
 -- every state is in the region that leaves anything
 pub anywhere : (s : Scope) (view : Possibilities) (place : Place) (w any : BitSet) (region : Region) (u : UnitState) → IsPlace s view place
@@ -161,4 +161,4 @@ refused_right s c tests view place w b arm refused conflict untested = record {
     conflicts u at =
         let one = sender_among s view place w b.region u refused.is at in
         subst (λ n. command_conflicts u.registry n c ≡ true) refused.own
-        (refused_conflicts u.registry place.sender c (subst (λ k. is_refused k c ≡ true) (sym one.2.1.2) (refused.refused one.0 one.1)))
+        (refused_conflicts u.registry place.sender c (subst (λ k. is_not_admitted k c ≡ true) (sym one.2.1.2) (refused.refused one.0 one.1)))

@@ -1,4 +1,4 @@
-use Rattle.pr_domain.proofs.Common.{◌≡◌, sym, ap, ◌∙◌, subst, false≢true, is_refused, standing_of}
+use Rattle.pr_domain.proofs.Common.{◌≡◌, sym, ap, ◌∙◌, subst, false≢true, is_not_admitted, standing_of}
 use Rattle.std.proofs.lemmas.Option.{same_Some}
 use Rattle.pr_domain.proofs.lemmas.Tallies.Requests.{alone_alike, uniform_by}
 use Rattle.pr_domain.proofs.tallying.alike_to.Goals as goal
@@ -11,7 +11,7 @@ returns-clause-alike c =
     let known = c.loop-other.invariant in
     record {
       itself = known.itself;
-      refused = λ r among. known.refused r among ∙ c.is_refused-refused.ensures ∙ ap (λ k. is_refused k c.args.asked.now.command) c.key_at.ensures;
+      refused = λ r among. known.refused r among ∙ c.is_not_admitted-refused.ensures ∙ ap (λ k. is_not_admitted k c.args.asked.now.command) c.key_at.ensures;
       stands = λ purpose asks r among.
           let same = same_Some c.purpose_of-purpose.result purpose (c.purpose_of-purpose.ensures.purpose ∙ asks) in
           subst (λ p. standing_of p r ≡ standing_of p c.args.registration) same (known.stands r among ∙ c.standing_of-standing.ensures);
