@@ -19,4 +19,4 @@ pub use hit::{class_of, last_class};
 pub use laws::{breaches_are_legal, breaches_refute_safety};
 pub use pr_explore::{Bound, Bounds, Broken, Together};
 pub use retracing::machines_of;
-pub use searching::{Finding, USUAL_BOUNDS, search};
+pub use searching::{Finding, USUAL_BOUNDS, search, search_by, search_on};
