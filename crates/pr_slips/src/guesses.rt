@@ -2,6 +2,7 @@
 
 use crate::forms::wanted_words;
 use crate::slips::type_by;
+use crate::terms::is_one;
 use crate::told::Told;
 use crate::words::{Placed, option_key};
 use arrayvec::ArrayVec;
@@ -48,13 +49,17 @@ pub fn guess_at<'a>(
     }
     match wanted {
         Wanted::Name => too_long(word.text, 16, b"characters", wanted),
-        Wanted::Key | Wanted::KeyOrZero | Wanted::Alternative => as_key(word, wanted),
+        Wanted::Key | Wanted::KeyOrZero => {
+            as_keyless(told, place, word).or(as_key(word, wanted))
+        }
+        Wanted::Alternative => as_key(word, wanted),
         Wanted::Count | Wanted::Address | Wanted::Blocks => as_decimal(word, wanted),
         Wanted::Sense => as_sense(told, place, word),
         Wanted::Reservation => as_reservation(word),
         Wanted::Command | Wanted::Option => as_value(word),
         Wanted::Generation => as_generation(word),
         Wanted::Budget => as_budget(word),
+        Wanted::End => as_code(told, place, word),
         _ => None,
     }
 }
@@ -99,6 +104,37 @@ fn too_long<'a>(
         return None;
     }
     Some(Guess::TooLong(wanted, text.len(), what))
+}
+
+// A word and its key, where what has none has a word of its own.
+fn as_keyless<'a>(told: &Told<'a>, place: usize, word: Placed<'a>) -> Option<Guess<'a>> {
+    let before = told.words.get(place.checked_sub(1)?)?;
+    let meant: &[u8] = match before.text {
+        b"register" if is_nothing(word.text) => b"unregister",
+        b"held" if is_nothing(word.text) => b"unheld",
+        _ => return None,
+    };
+    instead(HERE, told.span(before.first, word.end()), meant)
+}
+
+fn is_nothing(word: &[u8]) -> bool {
+    matches!(word, b"none" | b"nothing" | b"nobody" | b"free") || key_or_zero(word) == Some(0)
+}
+
+// The code behind `attention`, which takes each: one alone is a sense.
+fn as_code<'a>(told: &Told<'a>, place: usize, word: Placed<'a>) -> Option<Guess<'a>> {
+    let before = told.words.get(place.checked_sub(1)?)?;
+    let code = word
+        .text
+        .strip_prefix(b"6/".as_slice())
+        .unwrap_or(word.text);
+    if before.text != b"attention".as_slice() || !is_one(code, Wanted::Attention) {
+        return None;
+    }
+    let mut sense = Text::try_from(b"sense 6/".as_slice()).ok()?;
+    sense.try_extend_from_slice(code).ok()?;
+    let place = told.span(before.first, word.end());
+    Some(Guess::Instead(HERE, place, sense))
 }
 
 fn as_key(word: Placed<'_>, wanted: Wanted) -> Option<Guess<'_>> {
@@ -186,8 +222,7 @@ fn as_sense<'a>(told: &Told<'a>, place: usize, word: Placed<'a>) -> Option<Guess
     if sense.len() != MOST_LETTERS {
         return None;
     }
-    let text = told.line.get(word.first..told.words.last()?.end())?;
-    Some(Guess::Instead(HERE, Placed { text, ..word }, sense))
+    Some(Guess::Instead(HERE, told.to_end(word.first), sense))
 }
 
 /// As many letters as a sense has.

@@ -5,17 +5,22 @@
 //! files; proved is that each call is safe, ends, and takes no memory.
 #![tactic(auto)]
 
+mod behind;
 mod bytes;
 mod forms;
 mod guesses;
 mod misfits;
 mod nearest;
+mod parted;
+mod shapes;
 mod slips;
+mod terms;
 mod told;
 mod words;
 
 pub use bytes::tell_not_ascii;
-pub use misfits::{tell_misfit, tell_no_line};
+pub use misfits::{keyword_meant, tell_misfit, tell_no_line};
 pub use nearest::{Nearest, edits};
-pub use told::Told;
+pub use shapes::Within;
+pub use told::{NOT_UNDER, Told};
 pub use words::{Placed, Words, option_key, word_at, words_in};

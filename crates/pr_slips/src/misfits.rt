@@ -1,9 +1,13 @@
 //! Lines that don't keep their shape: the word that can't stand there, and what was meant by it.
 
+use crate::behind::tell_behind;
 use crate::forms::{form_of, missing_words, wanted_words};
 use crate::guesses::{HERE, guess_at, tell_guess};
 use crate::nearest::{nearest_keyword, nearest_wanted};
-use crate::slips::{Meant, meant_by, meant_by_line};
+use crate::parted::tell_parted;
+use crate::shapes::Within;
+use crate::slips::{Meant, meant_behind, meant_by, meant_by_line};
+use crate::terms::is_one;
 use crate::told::Told;
 use crate::words::{Placed, word_at};
 use pr_lines::{Keyword, Misfit, Wanted, keyword_of};
@@ -30,17 +34,27 @@ pub fn tell_misfit<W: Write>(
     tell_form(writer, word_at(&told.words, 0))
 }
 
+/// The word that a line begins with for which this first word was meant, if one is known.
+pub fn keyword_meant(told: &Told<'_>, first: Placed<'_>, within: Within) -> Option<&'static [u8]> {
+    match meant_first(told, first) {
+        Some(Meant::Word(word)) => Some(word),
+        Some(_) => None,
+        None => nearest_keyword(first.text, within, told.words.len().saturating_sub(1)),
+    }
+}
+
 /// Tells the first word of a line that no line begins with.
 pub fn tell_no_line<W: Write>(
     writer: &mut W,
     told: &Told<'_>,
     first: Placed<'_>,
+    within: Within,
 ) -> Result<(), WriteFault> {
     told.put_carets(writer, first)?;
-    if let Some(meant) = meant_by_line(first.text) {
+    if let Some(meant) = meant_first(told, first) {
         return tell_meant(writer, told, 0, first, Wanted::End, meant);
     }
-    let Some(near) = nearest_keyword(first.text) else {
+    let Some(near) = keyword_meant(told, first, within) else {
         return put(writer, NO_LINE);
     };
     told.put_meant(
@@ -50,6 +64,10 @@ pub fn tell_no_line<W: Write>(
         near,
     )?;
     tell_form(writer, near)
+}
+
+fn meant_first(told: &Told<'_>, first: Placed<'_>) -> Option<Meant> {
+    meant_by_line(first.text, word_at(&told.words, 3).contains(&b'.'))
 }
 
 const NO_LINE: &[u8] =
@@ -79,15 +97,24 @@ fn tell_word<W: Write>(
         return Ok(false);
     };
     told.put_carets(writer, *word)?;
+    if tell_parted(writer, told, place, *word, wanted)?
+        || tell_behind(writer, told, place, *word, wanted)?
+    {
+        return Ok(true);
+    }
     if let Some(guess) = guess_at(told, place, *word, wanted) {
         tell_guess(writer, told, guess)?;
         return Ok(true);
     }
-    if let Some(meant) = meant_by(word.text, wanted) {
+    if let Some(meant) = meant_at(told, word.text, wanted) {
         tell_meant(writer, told, place, *word, wanted, meant)?;
         return Ok(true);
     }
-    let Some(near) = nearest_wanted(name_of_option(*word).text, wanted) else {
+    let behind = told.words.len().saturating_sub(place).saturating_sub(1);
+    let name = name_of_option(*word).text;
+    let near = nearest_wanted(name, wanted, place, behind);
+    // (a word without a value is not meant by one that has a value)
+    let Some(near) = near.filter(|near| near.ends_with(b"=") || !name.ends_with(b"=")) else {
         return Ok(false);
     };
     told.put_meant(
@@ -97,6 +124,14 @@ fn tell_word<W: Write>(
         near,
     )?;
     Ok(true)
+}
+
+fn meant_at(told: &Told<'_>, word: &[u8], wanted: Wanted) -> Option<Meant> {
+    if wanted == Wanted::End {
+        meant_behind(word, keyword_of(word_at(&told.words, 0)))
+    } else {
+        meant_by(word, wanted)
+    }
 }
 
 // The word, up to the `=` in front of its value.
@@ -137,6 +172,46 @@ fn tell_meant<W: Write>(
             put_options(writer, told, place)
         }
         Meant::Said(sentence) => put_filled(writer, b"{}\n", &[Token::Text(sentence)]),
+        Meant::Ended(sentence) => {
+            put_filled(writer, b"{}:\n", &[Token::Text(sentence)])?;
+            told.put_up_to(writer, word.first)
+        }
+        Meant::Dropped(sentence) => tell_dropped(writer, told, place, word, sentence),
+        Meant::Lines(sentence, lines) => tell_lines(writer, told, sentence, lines),
+    }
+}
+
+// The word goes, and the line is what stands behind it, if a line begins so.
+fn tell_dropped<W: Write>(
+    writer: &mut W,
+    told: &Told<'_>,
+    place: usize,
+    word: Placed<'_>,
+    sentence: &'static [u8],
+) -> Result<(), WriteFault> {
+    let next = told.words.get(place.saturating_add(1));
+    match next {
+        Some(next) if keyword_of(next.text).is_some() => {
+            put_filled(writer, b"{}:\n", &[Token::Text(sentence)])?;
+            told.put_corrected(writer, told.span(word.first, next.first), b"")
+        }
+        Some(_) | None => put_filled(writer, b"{}.\n", &[Token::Text(sentence)]),
+    }
+}
+
+// The lines are for the key that the line ends with, if it does.
+fn tell_lines<W: Write>(
+    writer: &mut W,
+    told: &Told<'_>,
+    sentence: &'static [u8],
+    lines: &'static [u8],
+) -> Result<(), WriteFault> {
+    put_filled(writer, b"{}\n", &[Token::Text(sentence)])?;
+    match told.words.last() {
+        Some(key) if is_one(key.text, Wanted::Key) => {
+            put_filled(writer, lines, &[Token::Text(key.text)])
+        }
+        Some(_) | None => Ok(()),
     }
 }
 
@@ -157,6 +232,9 @@ fn put_options<W: Write>(writer: &mut W, told: &Told<'_>, place: usize) -> Resul
             is_value = false;
         } else {
             let meant = meant_by(word.text, Wanted::Option);
+            if let Some(Meant::Ended(_)) = meant {
+                break;
+            }
             put_option(writer, *word, meant)?;
             is_value = matches!(meant, Some(Meant::Option(_)));
         }
@@ -180,6 +258,8 @@ fn put_option<W: Write>(
         }
         Some(Meant::Option(text)) => put_spaced(writer, &[Token::Text(text)]),
         Some(Meant::LeftOut) => Ok(()),
-        Some(Meant::Said(_)) | None => put_spaced(writer, &[Token::Text(word.text)]),
+        Some(Meant::Said(_) | Meant::Ended(_) | Meant::Dropped(_) | Meant::Lines(..)) | None => {
+            put_spaced(writer, &[Token::Text(word.text)])
+        }
     }
 }

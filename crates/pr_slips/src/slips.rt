@@ -1,6 +1,6 @@
 //! What people write by habit, of `sg_persist`, the shell and other languages, and what is meant by it here.
 
-use pr_lines::Wanted;
+use pr_lines::{Keyword, Wanted, keyword_of};
 
 /// What is meant by a word.
 #[derive(Clone, Copy)]
@@ -16,14 +16,30 @@ pub enum Meant {
 
     /// A sentence says it.
     Said(&'static [u8]),
+
+    /// The line ends in front of it, as a sentence says.
+    Ended(&'static [u8]),
+
+    /// The line begins behind it, as a sentence says.
+    Dropped(&'static [u8]),
+
+    /// A sentence says it, and lines stand in place of this one, with its key in place of `{}`.
+    Lines(&'static [u8], &'static [u8]),
 }
 
-use Meant::{LeftOut, Option as Valued, Said, Word};
+use Meant::{Dropped, Ended, LeftOut, Lines, Option as Valued, Said, Word};
 
 /// Words, or the fronts of some that end with `=` or `/`, and what is meant by each of them.
 type Slip = (&'static [&'static [u8]], Meant);
 
-const NO_VARIABLE: Meant = Said(b"There are no variables: write keys and names as they are.");
+/// What is said of a variable.
+pub const NO_VARIABLES: &[u8] = b"There are no variables: write keys and names as they are.";
+
+const NO_VARIABLE: Meant = Said(NO_VARIABLES);
+
+const LABEL: Meant = Said(
+    b"There are no labels: statements run one behind another, and repeat N and break make loops.",
+);
 
 const PROGRAM: Meant = Said(
     b"Leave out the name of the program and the device; the options stand behind send\n(docs/FROM_SG_PERSIST.md).",
@@ -35,7 +51,9 @@ const LINES: &[Slip] = &[
         Said(b"A node is host NAME where it has a script here, and guest NAME where it has none."),
     ),
     (
-        &[b"if", b"elif", b"else", b"fi", b"then", b"case", b"esac"],
+        &[
+            b"if", b"elif", b"else", b"then", b"case", b"[", b"[[", b"test",
+        ],
         Said(
             b"There is no if: what is to be done after a reply stands below the line on REPLY of its send.",
         ),
@@ -44,10 +62,40 @@ const LINES: &[Slip] = &[
         &[b"while", b"until", b"for", b"loop", b"retry"],
         Said(b"A loop is repeat N, closed by done; break leaves it."),
     ),
+    (&[b"fi", b"esac", b"endif"], Word(b"done")),
     (
-        &[b"sleep", b"wait"],
+        &[b"sleep", b"wait", b"delay", b"timeout"],
         Said(b"Time has no part here: leave the line out. To ask again, use repeat N."),
     ),
+    (
+        &[b"continue", b"next"],
+        Said(
+            b"There is no continue: a turn ends at the done of its repeat. What it is not to do after this\nreply stands below the arms of the others.",
+        ),
+    ),
+    (
+        &[b"include", b"import", b"source", b"."],
+        Said(b"A scenario is one text: write here what the other text has."),
+    ),
+    (
+        &[b"device", b"disk", b"lun", b"unit"],
+        Said(b"There is one disk, which has no name here: leave the line out."),
+    ),
+    (
+        &[b"{", b"}", b"};"],
+        Said(b"There are no braces: done closes a send or a repeat, and end a script or a plan."),
+    ),
+    (
+        &[b"<<<<<<<", b"|||||||", b"=======", b">>>>>>>"],
+        Said(
+            b"git leaves such lines where two changes meet: keep one of the two, and delete these lines.",
+        ),
+    ),
+    (
+        &[b"-", b"*", b"+"],
+        Dropped(b"No sign stands in front of a line"),
+    ),
+    (&[b"end-for"], TEMPLATE),
     (
         &[b"goto", b"jump", b"call", b"function"],
         Said(
@@ -64,11 +112,23 @@ const LINES: &[Slip] = &[
         Said(b"A script ends by stop WORD, with a word of your own, or behind its last statement."),
     ),
     (&[b"sg_persist", b"mpathpersist"], PROGRAM),
-    (&[b"//", b";"], Said(b"A comment begins with #.")),
+    (
+        &[b"//", b";", b"--", b"/*", b"rem"],
+        Said(b"A comment begins with #."),
+    ),
 ];
 
-const NOT: Meant = Said(
+const TEMPLATE: Meant = Said(
+    b"This is a line of a template: the script alike writes the scenario from it.",
+);
+
+const NOT: Meant = Lines(
     b"There is no not. Write on good has KEY, and below it on good, which takes all other GOOD replies.",
+    b"  on good has {}\n  on good\n",
+);
+
+const EMPTY: Meant = Said(
+    b"Below READ KEYS each key has its arm, on good has KEY, and on good behind them takes the empty list.\nBelow READ RESERVATION it is on good unheld.",
 );
 
 const ARMS: &[Slip] = &[
@@ -80,11 +140,23 @@ const ARMS: &[Slip] = &[
             b"There is no arm for every reply: write one for each, as on good, on conflict and on attention.",
         ),
     ),
-    (&[b"not", b"!"], NOT),
-    (&[b"ok", b"success", b"0"], Word(b"good")),
-    (&[b"unit-attention", b"ua"], Word(b"attention")),
-    (&[b"reservation-conflict"], Word(b"conflict")),
-    (&[b"task-set-full", b"queue-full"], Word(b"full")),
+    (&[b"not", b"!", b"lacks", b"without"], NOT),
+    (&[b"empty"], EMPTY),
+    (&[b"ok", b"success", b"0", b"0x00"], Word(b"good")),
+    (&[b"unit-attention", b"ua", b"6"], Word(b"attention")),
+    (
+        &[b"reservation-conflict", b"24", b"0x18", b"18h"],
+        Word(b"conflict"),
+    ),
+    (&[b"0x08", b"08h"], Word(b"busy")),
+    (
+        &[b"task-set-full", b"queue-full", b"0x28", b"28h"],
+        Word(b"full"),
+    ),
+    (
+        &[b"timeout", b"timed-out", b"no-reply", b"nothing", b"none"],
+        Said(b"The disk answers each command here: no arm is for a reply that does not come."),
+    ),
     (
         &[b"check-condition", b"check"],
         Said(
@@ -97,7 +169,8 @@ const ARMS: &[Slip] = &[
 ];
 
 const GOODS: &[Slip] = &[
-    (&[b"not", b"!"], NOT),
+    (&[b"not", b"!", b"lacks", b"without"], NOT),
+    (&[b"empty"], EMPTY),
     (
         &[b"and", b"&&"],
         Said(b"An arm asks one thing: a second one has its own arm, below it."),
@@ -141,6 +214,10 @@ const ACTIONS: &[Slip] = &[
 
 const IFS: &[Slip] = &[
     (&[b"when", b"while", b"where"], Word(b"if")),
+    (
+        &[b"unless"],
+        Ended(b"There is no unless: without a condition the clause permits it at any time"),
+    ),
     (&[b"and"], CLAUSE_BY_CLAUSE),
     (
         &[b"abort"],
@@ -207,7 +284,24 @@ const OPTIONS: &[Slip] = &[
             b"A scenario has no such option: docs/FROM_SG_PERSIST.md says what is left out, and why.",
         ),
     ),
+    (SHELL_SIGNS, BEHIND_COMMAND),
 ];
+
+const SHELL_SIGNS: &[&[u8]] = &[
+    b"||",
+    b"&&",
+    b"|",
+    b"&",
+    b";",
+    b">",
+    b">>",
+    b"2>",
+    b"2>&1",
+    b">/dev/null",
+    b"2>/dev/null",
+];
+
+const BEHIND_COMMAND: Meant = Ended(b"A line has one command, and nothing of a shell behind it");
 
 const COMMANDS: &[Slip] = &[
     (
@@ -244,16 +338,85 @@ const TYPES: &[Slip] = &[
     ),
 ];
 
-const ALTERNATIVES: &[Slip] = &[(&[b"none", b"0"], Word(b"free"))];
+const NAMES: &[Slip] = &[(
+    &[b"*"],
+    Said(b"A line is of one host or guest: write one for each of them."),
+)];
 
-const RESERVATIONS: &[Slip] = &[(&[b"free", b"0"], Word(b"none"))];
+const KEYS: &[Slip] = &[(
+    &[b"*", b"all", b"any", b"each"],
+    Said(
+        b"Each key is written out: behind keys they stand on one line, and elsewhere each has its own.",
+    ),
+)];
 
-/// What is meant by the word at the beginning of a line.
-pub fn meant_by_line(word: &[u8]) -> Option<Meant> {
+const ALTERNATIVES: &[Slip] = &[
+    (
+        &[b"none", b"0", b"unregistered", b"unregister", b"nothing"],
+        Word(b"free"),
+    ),
+    (
+        &[b"*", b"all", b"any"],
+        Said(b"Each that may be is written out: free, and each key, all on this line."),
+    ),
+];
+
+const ATTENTIONS: &[Slip] = &[
+    (
+        &[b"none", b"0", b"free", b"nothing"],
+        Said(b"Where nothing is pending the line is left out."),
+    ),
+    (&[b"*", b"all", b"any"], Word(b"29/00 2a/03 2a/04 2a/05")),
+];
+
+const RESERVATIONS: &[Slip] = &[
+    (&[b"free", b"0", b"nothing", b"unheld"], Word(b"none")),
+    (
+        &[b"*", b"all", b"any", b"1:*", b"3:*", b"5:*", b"6:*"],
+        Said(b"Each that may be is written out: none, and each T:NAME, all on this line."),
+    ),
+];
+
+const BEHIND_ARM: &[Slip] = &[(
+    &[b"and", b"&&"],
+    Said(
+        b"An arm asks for one key: to ask for a second, send the same command again below this arm.",
+    ),
+)];
+
+const BEHIND_CLAUSE: &[Slip] = &[(
+    &[b"and", b"&&", b"unless"],
+    Ended(b"A clause has one condition; with one of the two alone it permits more"),
+)];
+
+/// What is meant by the word at the beginning of a line. A template has `for` with a range, as `1..8`.
+pub fn meant_by_line(word: &[u8], is_range: bool) -> Option<Meant> {
+    if is_range && word == b"for".as_slice() {
+        return Some(TEMPLATE);
+    }
+    if let Some(meant) = meant_in(LINES, word) {
+        return Some(meant);
+    }
     if word.contains(&b'=') && !word.starts_with(b"-") || word.starts_with(b"$") {
         return Some(NO_VARIABLE);
     }
-    meant_in(LINES, word)
+    match word.strip_suffix(b":".as_slice()) {
+        Some(label) if keyword_of(label).is_none() => Some(LABEL),
+        _ => None,
+    }
+}
+
+/// What is meant by the word behind the end of a line that begins so; a command of a plan begins with no keyword.
+pub fn meant_behind(word: &[u8], first: Option<Keyword>) -> Option<Meant> {
+    match first {
+        Some(Keyword::On) => meant_in(BEHIND_ARM, word),
+        Some(Keyword::Role) => meant_in(BEHIND_CLAUSE, word),
+        Some(Keyword::End | Keyword::Done | Keyword::Break) => {
+            Some(Ended(b"Nothing stands behind end, done and break"))
+        }
+        Some(Keyword::Send) | None if SHELL_SIGNS.contains(&word) => Some(BEHIND_COMMAND),
+        _ => None,
+    }
 }
 
 /// What is meant by the word where this was wanted.
@@ -279,7 +442,10 @@ fn slips_at(wanted: Wanted) -> &'static [Slip] {
         Wanted::Condition => CONDITIONS,
         Wanted::Kind => TYPES,
         Wanted::Option | Wanted::Command => OPTIONS,
+        Wanted::Name => NAMES,
+        Wanted::Key | Wanted::KeyOrZero => KEYS,
         Wanted::Alternative => ALTERNATIVES,
+        Wanted::Attention => ATTENTIONS,
         Wanted::Reservation => RESERVATIONS,
         _ => &[],
     }

@@ -5,6 +5,7 @@
 //! call is safe, ends, and takes no memory.
 #![tactic(auto)]
 
+mod confused;
 mod declared;
 mod indents;
 mod limits;

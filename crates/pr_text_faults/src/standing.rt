@@ -1,9 +1,12 @@
 //! Lines that may not stand where they stand.
 
+use crate::declared::line_of;
 use crate::indents::unclosed_by_indent;
 use pr_lines::{Keyword, Misfit, Wanted, keyword_of};
 use pr_output::{Token, WriteFault, put};
-use pr_slips::{Placed, Told, edits, tell_misfit, tell_no_line, word_at};
+use pr_slips::{
+    NOT_UNDER, Placed, Told, Within, edits, keyword_meant, tell_misfit, tell_no_line, word_at,
+};
 use pr_text::{Above, Block, Diagnosis, Section};
 use pr_words::put_source_line;
 use pr_words::saying::put_filled;
@@ -46,12 +49,12 @@ const NOTHING_OPEN: Reason = Reason::Said(
 
 const NO_REPEAT: Reason = Reason::Said(b"No repeat is open here that it could leave.\n");
 
-const NO_SCRIPT: Reason = Reason::Said(
-    b"The host has no script: add one, script NAME budget N to end, or make it a guest.\n",
+const NO_COMMAND: Reason = Reason::Said(
+    b"In a script a command stands behind send, and this is not a whole one.\n",
 );
 
-const NOT_UNDER: Reason = Reason::Said(
-    b"The send of this arm is of another command: has stands below --read-keys, held and unheld below\n--read-reservation.\n",
+const NO_SCRIPT: Reason = Reason::Said(
+    b"The host has no script: add one, script NAME budget N to end, or make it a guest.\n",
 );
 
 /// Tells the line, which has the form of none, or of one that may not stand there.
@@ -67,12 +70,10 @@ pub fn tell_syntax<W: Write>(
     if found.above.section == Section::Top && first.text != b"fence".as_slice() {
         told.put_carets(writer, *first)?;
         put(writer, NOT_FIRST)?;
-        if edits(first.text, b"fence").is_some() {
-            return told.put_corrected(writer, *first, b"fence");
-        }
-        return put(writer, kind_of_text(told.text, first.text));
+        return tell_not_first(writer, told, *first);
     }
-    match reason_of(&found.above, told, found.misfit) {
+    let keyword = keyword_of(first.text);
+    match reason_of(&found.above, told, keyword, found.misfit) {
         Some(reason) => {
             told.put_carets(writer, *first)?;
             tell_reason(writer, told, *first, reason)
@@ -81,19 +82,57 @@ pub fn tell_syntax<W: Write>(
     }
 }
 
+// The first word of a text that does not begin as a scenario: a misspelt one, one of another kind of text, or one too early.
+fn tell_not_first<W: Write>(
+    writer: &mut W,
+    told: &Told<'_>,
+    first: Placed<'_>,
+) -> Result<(), WriteFault> {
+    match first.text {
+        b"fence1" => return told.put_corrected(writer, first, b"fence 1"),
+        b"fence2" => return told.put_corrected(writer, first, b"fence 2"),
+        word if told.words.len() == 2 && edits(word, b"fence").is_some() => {
+            return told.put_corrected(writer, first, b"fence");
+        }
+        _ => {}
+    }
+    let kind = kind_of_text(told.text, first.text);
+    match line_of(told.text, b"fence", None) {
+        Some(line) if kind.is_empty() => {
+            put_source_line(writer, told.text, line)?;
+            put_filled(
+                writer,
+                b"Line {} says it: let it stand in front of this one.\n",
+                &[Token::Number(u64::from(line))],
+            )
+        }
+        _ => put(writer, kind),
+    }
+}
+
+const PACEMAKER: &[u8] =
+    b"This is a configuration of Pacemaker: a scenario says what each node sends to the disk\n(docs/FROM_SG_PERSIST.md).\n";
+
 const SHELL: &[u8] =
     b"This is a script of a shell: docs/FROM_SG_PERSIST.md says how to write it as a scenario.\n";
+
+const COMMENT: &[u8] = b"A comment begins with #.\n";
 
 // What the text is by its first word, where that is no scenario.
 fn kind_of_text(text: &[u8], first: &[u8]) -> &'static [u8] {
     match first {
         b"fence-trace" => b"This is a trace: fence audit SCENARIO TRACE judges it.\n",
         b"fence-witness" => b"This is a witness: fence explain SCENARIO WITNESS tells it.\n",
+        b"fence-table" => b"This is a table, which fence table SCENARIO HOST writes.\n",
         b"fence-outline" => b"This is an outline, which fence outline SCENARIO writes.\n",
         b"sg_persist" | b"mpathpersist" | b"set" | b"export" | b"if" | b"for" => SHELL,
+        b"primitive" | b"clone" | b"group" | b"ms" | b"location" | b"colocation" => PACEMAKER,
+        b"order" | b"property" | b"rsc_defaults" | b"pcs" | b"crm" => PACEMAKER,
+        b";" | b"--" | b"rem" => COMMENT,
         _ if text.starts_with(b"#!") => SHELL,
         _ if first.starts_with(b"{") || first.starts_with(b"[") => b"This looks like JSON.\n",
-        _ if first.starts_with(b"//") || first.starts_with(b"/*") => b"A comment begins with #.\n",
+        _ if first.starts_with(b"<") => b"This looks like XML.\n",
+        _ if first.starts_with(b"//") || first.starts_with(b"/*") => COMMENT,
         _ => b"",
     }
 }
@@ -106,25 +145,65 @@ fn tell_shape<W: Write>(
     above: &Above,
     misfit: Option<Misfit>,
 ) -> Result<(), WriteFault> {
-    let is_command = match above.section {
-        Section::Plan(_) => true,
-        Section::Top | Section::Outside | Section::Script(_) => keyword_of(first.text).is_some(),
-    };
+    let within = within_of(above.section);
+    let is_command = within == Within::Plan || keyword_of(first.text).is_some();
     match misfit {
         Some(misfit) if is_command => tell_misfit(writer, told, misfit),
-        Some(_) | None => tell_no_line(writer, told, first),
+        Some(_) | None => tell_first_word(writer, told, first, above, within),
     }
 }
 
+fn within_of(section: Section) -> Within {
+    match section {
+        Section::Top | Section::Outside => Within::Nothing,
+        Section::Script(_) => Within::Script,
+        Section::Plan(_) => Within::Plan,
+    }
+}
+
+// No line begins with its first word; nor may one stand there, maybe, that begins with the word that was meant.
+fn tell_first_word<W: Write>(
+    writer: &mut W,
+    told: &Told<'_>,
+    first: Placed<'_>,
+    above: &Above,
+    within: Within,
+) -> Result<(), WriteFault> {
+    let meant = keyword_meant(told, first, within).unwrap_or(b"");
+    match reason_of(above, told, keyword_of(meant), Some(UNREAD)) {
+        Some(reason) => {
+            told.put_carets(writer, first)?;
+            put_filled(
+                writer,
+                b"No line begins so; and if {} was meant, such a line can't stand here.\n",
+                &[Token::Text(meant)],
+            )?;
+            tell_reason(writer, told, first, reason)
+        }
+        None => tell_no_line(writer, told, first, within),
+    }
+}
+
+// What the reader says of a line whose first word it doesn't know.
+const UNREAD: Misfit = Misfit {
+    left: 0,
+    wanted: Wanted::Command,
+};
+
 // Why the line may not stand there, if what stands above it shows that.
-fn reason_of(above: &Above, told: &Told<'_>, misfit: Option<Misfit>) -> Option<Reason> {
-    let keyword = keyword_of(word_at(&told.words, 0));
+fn reason_of(
+    above: &Above,
+    told: &Told<'_>,
+    keyword: Option<Keyword>,
+    misfit: Option<Misfit>,
+) -> Option<Reason> {
     match above.section {
         Section::Top => None,
-        Section::Outside => reason_outside(above, keyword?, misfit),
+        Section::Outside => reason_outside(above, told, keyword?, misfit),
         Section::Script(line) => match keyword {
             Some(keyword) => reason_in_script(above, line, keyword, told, misfit),
-            None if is_command(misfit) => Some(Reason::Unsent),
+            None if misfit.is_none() => Some(Reason::Unsent),
+            None if is_command(misfit) => Some(NO_COMMAND),
             None => None,
         },
         Section::Plan(line) => match keyword? {
@@ -137,7 +216,7 @@ fn reason_of(above: &Above, told: &Told<'_>, misfit: Option<Misfit>) -> Option<R
     }
 }
 
-// A command that is whole, or breaks off behind its first word.
+// A command that breaks off behind its first word.
 fn is_command(misfit: Option<Misfit>) -> bool {
     match misfit {
         Some(misfit) => misfit.wanted != Wanted::Command,
@@ -145,8 +224,17 @@ fn is_command(misfit: Option<Misfit>) -> bool {
     }
 }
 
-fn reason_outside(above: &Above, keyword: Keyword, misfit: Option<Misfit>) -> Option<Reason> {
+fn reason_outside(
+    above: &Above,
+    told: &Told<'_>,
+    keyword: Keyword,
+    misfit: Option<Misfit>,
+) -> Option<Reason> {
     match keyword {
+        Keyword::Fence => Some(Reason::Line(
+            b"The version stands on the first line with words, line {}, and nowhere else: delete this line.\n",
+            line_of(told.text, b"fence", None)?,
+        )),
         Keyword::Send | Keyword::On | Keyword::Done | Keyword::Repeat => Some(OUTSIDE),
         Keyword::Break | Keyword::Stop | Keyword::End => Some(OUTSIDE),
         Keyword::Busy | Keyword::Full | Keyword::Resets if above.version < 2 => Some(VERSION),
@@ -168,9 +256,11 @@ fn reason_in_script(
             reason_of_statement(above, keyword)
         }
         Keyword::On => reason_of_arm(above, told, misfit),
-        Keyword::Done if innermost.is_none() => Some(NOTHING_OPEN),
-        Keyword::Done if above.is_bare => reason_of_statement(above, keyword),
-        Keyword::Done => None,
+        Keyword::Done => match innermost {
+            None => Some(NOTHING_OPEN),
+            Some(block) if block.is_repeat => reason_of_statement(above, keyword),
+            Some(_) => None,
+        },
         Keyword::End => innermost.map(Reason::Unclosed),
         _ => match innermost {
             Some(block) => Some(Reason::Unclosed(block)),
@@ -188,7 +278,7 @@ fn reason_of_arm(above: &Above, told: &Told<'_>, misfit: Option<Misfit>) -> Opti
         None => Some(NO_SEND),
         Some(block) if block.is_repeat => Some(Reason::Unclosed(block)),
         Some(_) if above.version < 2 && matches!(test, b"busy" | b"full") => Some(VERSION),
-        Some(_) if misfit.is_none() => Some(NOT_UNDER),
+        Some(_) if misfit.is_none() => Some(Reason::Said(NOT_UNDER)),
         Some(_) => None,
     }
 }

@@ -22,7 +22,13 @@ pub fn write_text_fault<W: Write>(
         ReadError::TooLarge => put(writer, TOO_LARGE),
         ReadError::NotAscii { line } => tell_not_ascii(writer, &Told::of(text, line)),
         ReadError::LineTooLong { line } => tell_too_long(writer, &Told::of(text, line)),
-        ReadError::Syntax { line } => tell_syntax(writer, &Told::of(text, line), found),
+        ReadError::Syntax { line } => {
+            let told = match found.above.innermost() {
+                Some(block) => Told::of(text, line).below(block.line),
+                None => Told::of(text, line),
+            };
+            tell_syntax(writer, &told, found)
+        }
         ReadError::UnknownName { line } => tell_unknown(writer, &Told::of(text, line)),
         ReadError::Limit { which, line } => {
             put_source_line(writer, text, line)?;

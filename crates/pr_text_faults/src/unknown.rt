@@ -1,11 +1,12 @@
 //! Names and keys that are not declared, and what is said again.
 
+use crate::confused::{tell_no_key, tell_no_name};
 use crate::declared::{declaration, is_declared, line_of, nearest_key, nearest_name};
 use pr_lines::key_or_zero;
-use pr_output::{Token, WriteFault, put};
-use pr_slips::{Placed, Told, option_key, word_at};
-use pr_words::put_source_line;
+use pr_output::{Token, WriteFault, put, put_spaced};
+use pr_slips::{Placed, Told, option_key, word_at, words_in};
 use pr_words::saying::put_filled;
+use pr_words::{line_in, put_source_line};
 use std::io::Write;
 
 /// Tells the line, which uses a name that no line above declares, or declares as one of the other kind.
@@ -14,6 +15,9 @@ pub fn tell_unknown<W: Write>(writer: &mut W, told: &Told<'_>) -> Result<(), Wri
     match unknown_name(told) {
         Some(name) => {
             told.put_carets(writer, name)?;
+            if tell_no_name(writer, told, name)? {
+                return Ok(());
+            }
             tell_undeclared_name(writer, told, name.text)
         }
         None => tell_wrong_kind(writer, told),
@@ -99,6 +103,9 @@ pub fn tell_undeclared<W: Write>(writer: &mut W, told: &Told<'_>) -> Result<(), 
         return put(writer, b"A key on the line is not declared above.\n");
     };
     told.put_carets(writer, key)?;
+    if tell_no_key(writer, told, key)? {
+        return Ok(());
+    }
     match line_of(told.above, b"keys", None) {
         Some(line) => tell_not_among(writer, told, line, key.text),
         None => put_filled(
@@ -161,17 +168,42 @@ pub fn tell_repeated<W: Write>(writer: &mut W, told: &Told<'_>) -> Result<(), Wr
     if let Some(earlier) = earlier_line(told) {
         put_source_line(writer, told.text, earlier)?;
         told.put_line(writer)?;
-        return put_filled(
-            writer,
-            b"Line {} says it already. Delete one of the two; alternatives stand on one line.\n",
-            &[Token::Number(u64::from(earlier))],
-        );
+        return tell_said(writer, told, earlier);
     }
     told.put_line(writer)?;
     if let Some(word) = second_time(&told.words) {
         told.put_carets(writer, word)?;
     }
     put(writer, b"The line says that twice.\n")
+}
+
+const SAID: &[u8] =
+    b"Line {} says it already. Delete one of the two; alternatives stand on one line.\n";
+
+// What the line says a line above says already. What lists of both have is put together on one.
+fn tell_said<W: Write>(writer: &mut W, told: &Told<'_>, earlier: u32) -> Result<(), WriteFault> {
+    let number = Token::Number(u64::from(earlier));
+    let from = match word_at(&told.words, 0) {
+        b"keys" | b"reservation" => 1,
+        b"start" | b"pending" => 2,
+        _ => return put_filled(writer, SAID, &[number]),
+    };
+    put_filled(
+        writer,
+        b"Line {} says it already. In place of the two stands one line:\n ",
+        &[number],
+    )?;
+    let words = words_in(line_in(told.text, earlier).unwrap_or(b""));
+    for word in &words {
+        put_spaced(writer, &[Token::Text(word.text)])?;
+    }
+    for word in told.words.iter().skip(from) {
+        let mut others = words.iter().skip(from);
+        if !others.any(|other| is_same(other.text, word.text)) {
+            put_spaced(writer, &[Token::Text(word.text)])?;
+        }
+    }
+    put(writer, b"\n")
 }
 
 // The line above that says the same once already.
