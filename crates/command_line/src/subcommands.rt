@@ -7,7 +7,7 @@ use std::alloc::{AllocError, Global};
 const VERSION: &str = "0.1.0 (language fence 2, for rattle-kit-13f)";
 
 const STATUSES: &str =
-    "Exit status: 0 done, accepted or legal, no witness is found, or no run ends as asked; 1 a script is refused or trapped, a witness is found, a run ends as asked or may end so, or a trace is illegal; 2 the command line is at fault, or help or version was asked for; \
+    "Exit status: 0 done, accepted, safe or legal, or no run ends as asked; 1 a script is refused or trapped, a witness is found, a run ends as asked, a bound ended a search, or a trace is illegal; 2 the command line is at fault, or help or version was asked for; \
 3 input or output is at fault; 4 memory ran out, or a thread could not be started. A fault is told in one line on standard error.";
 
 const CHECK_CALL: &str = "For example: fence check preempted-writer.fence";
@@ -146,7 +146,9 @@ fn run<'a>(alloc: Global) -> Result<Command<'a>, AllocError> {
 }
 
 fn audit<'a>(alloc: Global) -> Result<Command<'a>, AllocError> {
-    let trace = Arg::new(alloc, "TRACE").help("The trace").required(true);
+    let trace = Arg::new(alloc, "TRACE")
+        .help("The trace; - is standard input, where FILE is none")
+        .required(true);
     Command::new(alloc, "audit")
         .about(
             "Says whether the commands and replies of a trace may have happened, or which is the first that may not",

@@ -3,13 +3,13 @@
 use Rattle.std.specs.Prelude.{ℕ, ◌+◌, ◌==◌, ◌&&◌, Bool, true, false, if◌then◌else◌, List, [], ◌∷◌, length, take, drop, codes, map, replicate, slice_index_or, slice_set, Option, Some, None, option_map, option_and_then}
 use Rattle.std.specs.List.{position}
 use Rattle.pr_roles.specs.Scenarios.{Scenario, task}
-use Rattle.pr_roles.specs.Tasks.{has_script}
 use Rattle.pr_audit.specs.declared.end.End.{End}
 use Rattle.pr_lines.specs.WordTerms.{amount_of, name_of, value_after}
 use Rattle.pr_trace.specs.TraceReadings.{number_of}
 use Rattle.pr_trace.specs.TraceText.{names_in}
 use Rattle.pr_explore.specs.Exits.{Exit, ExitsTrapped, ExitsWith}
 use Rattle.pr_explore.specs.Together.{exit_in}
+use Rattle.pr_commands.specs.Sayings.{may_end_so}
 use Rattle.pr_commands.specs.declared.asked.TheConstants.{EQUALS, MOST_LINE}
 
 -- a word with which a script stops, or the line of the send at which it is trapped
@@ -34,16 +34,16 @@ abbrev pub is_free : Option Exit → Bool
 is_free None = true
 is_free (Some x) = false
 
--- one more, of a script of which nothing was asked yet
+-- one more, to which its script may come, and of which nothing was asked yet
 abbrev pub with_ask : Scenario → List (Option Exit) → ℕ × Exit → Option (List (Option Exit))
-with_ask s asks a = if has_script (task s a.0) && is_free (slice_index_or asks a.0 None) then Some (slice_set asks a.0 (Some a.1)) else None
+with_ask s asks a = if may_end_so a.1 (task s a.0) && is_free (slice_index_or asks a.0 None) then Some (slice_set asks a.0 (Some a.1)) else None
 
 -- all of them, one after another
 abbrev pub asks_from : Scenario → List (Option Exit) → List (List ℕ) → Option (List (Option Exit))
 asks_from s asks [] = Some asks
 asks_from s asks (word ∷ words) = option_and_then (λ more. asks_from s more words) (option_and_then (with_ask s asks) (ask_of (names_in s) word))
 
--- what these words ask for, if each asks for one end, and none of them for a second one of a script
+-- what these words ask for, if each asks for an end to which its script may come, and none of them for a second one of a script
 abbrev pub asks_of : Scenario → List (List ℕ) → Option (List (Option Exit))
 asks_of s words = asks_from s (replicate (length s.nexuses) None) words
 

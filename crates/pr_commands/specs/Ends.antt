@@ -1,6 +1,6 @@
 -- Agrees with docs/FORMATS.md, 'Ends'.
 -- What `fence ends` writes.
-use Rattle.std.specs.Prelude.{◌≡◌, ℕ, Bool, true, false, List, [], ◌∷◌, Option, Some, None, IfSome, Result}
+use Rattle.std.specs.Prelude.{◌≡◌, ℕ, Bool, true, false, not, List, [], ◌∷◌, Option, Some, None, IfSome, Result}
 use Rattle.pr_roles.specs.Scenarios.{Scenario}
 use Rattle.pr_text.specs.Reading.{IsWrittenAs}
 use Rattle.pr_audit.specs.declared.end.End.{End}
@@ -30,9 +30,9 @@ abbrev pub answer_text : List (List ℕ) → EndsAnswer → List ℕ
 answer_text names (listed ends) = ends_text names ends
 answer_text names (sought asked found) = sought_text names found
 
--- that a run ends so, and where nothing is proved, is no
+-- that a run ends so is no, and so it is where nothing is proved
 abbrev pub is_no : EndsAnswer → Bool
-is_no (listed ends) = false
+is_no (listed ends) = not ends.are_all
 is_no (sought asked (Found run steps)) = true
 is_no (sought asked (Never worlds)) = false
 is_no (sought asked (Nothing worlds bound)) = true

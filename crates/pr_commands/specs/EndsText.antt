@@ -27,18 +27,18 @@ end_part name (Some (end.Left planned)) = []
 abbrev pub end_parts : List (List ℕ) → List End → List ℕ
 end_parts names ends = flat_map (λ host. end_part (name_of names host) (slice_get ends host)) (range_with_len 0 (length ends))
 
--- each host with its end, and the fewest steps of a run that ends so
+-- each host with its end, and so many steps, as the search counted them
 abbrev pub ends_line : List (List ℕ) → List End → ℕ → List ℕ
 ends_line names ends steps = end_parts names ends ++ line (codes "after") (decimal steps ∷ [])
 
--- the bound that was met, if one was, and how many worlds were looked at
+-- the bound that was met, if one was, and how many worlds were found
 abbrev pub bound_line : ℕ → Option Bound → List ℕ
 bound_line worlds None = line (codes "bound") (decimal worlds ∷ [])
 bound_line worlds (Some Worlds) = line (codes "bound") (codes "worlds" ∷ decimal worlds ∷ [])
 bound_line worlds (Some Depth) = line (codes "bound") (codes "depth" ∷ decimal worlds ∷ [])
 bound_line worlds (Some Memory) = line (codes "bound") (codes "memory" ∷ decimal worlds ∷ [])
 
--- that there are no others among so many worlds, which are all; or the bound
+-- that there are no others, and how many worlds were found; or the bound
 abbrev pub last_line : Bool → ℕ → Option Bound → List ℕ
 last_line true worlds bound = line (codes "all") (decimal worlds ∷ codes "worlds" ∷ [])
 last_line false worlds bound = bound_line worlds bound

@@ -9,7 +9,9 @@ pub mod Witnesses
 pub mod Replays
 pub mod Checks
 pub mod Asked
+pub mod AuditedTraces
 pub mod Audits
 pub mod Runs
+pub mod Sayings
 pub mod Outlines
 pub mod inside

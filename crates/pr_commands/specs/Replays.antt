@@ -2,14 +2,13 @@
 -- What `fence replay` writes.
 use Rattle.std.specs.Prelude.{◌≡◌, ℕ, Bool, true, false, IsTrue, List, map, Option, Some, None, IfSome, Result, Err}
 use Rattle.std.specs.List.{list_any}
-use Rattle.pr_unit.specs.UnitStates.{UnitState}
 use Rattle.pr_roles.specs.declared.step.Step.{Step}
 use Rattle.pr_roles.specs.Scenarios.{Scenario}
-use Rattle.pr_roles.specs.FirstStarts.{first_state}
 use Rattle.pr_roles.specs.Worlds.{is_trapped}
-use Rattle.pr_roles.specs.Schedules.{Schedule, ScheduledRun, schedule_from}
+use Rattle.pr_roles.specs.Schedules.{Schedule}
 use Rattle.pr_audit.specs.Ends.{ending_of}
 use Rattle.pr_world.specs.declared.replaying.Replayed.{Replayed}
+use Rattle.pr_world.specs.Courses.{IsReached}
 use Rattle.pr_world.specs.Replays.{IsEndOf}
 use Rattle.pr_text.specs.Reading.{IsWrittenAs}
 use Rattle.pr_trace.specs.TraceText.{names_in, trace_text}
@@ -19,17 +18,15 @@ use Rattle.pr_commands.specs.declared.fault.Fault.TheVariants as fault
 use Rattle.pr_commands.specs.Endings.{Outputs}
 use Rattle.pr_commands.specs.Steps.{steps_of, has_wrong_count}
 
--- The text is a scenario, the steps name its nexuses, and this is the trace of their scheduled
--- run from the first start; it is refused where a host is trapped.
+-- The text is a scenario, the steps name its nexuses, and this is the trace of what they lead to from the first start, which is a
+-- run of the scenario; it is refused where a host is trapped.
 pub record IsTraceOf (steps : List (List ℕ)) (text trace : List ℕ) (refused : Bool) : Type 0 where
   pub scenario : Scenario
   pub read : IsWrittenAs text scenario
   pub turns : List Step
   pub named : steps_of scenario.version (names_in scenario) steps ≡ Some turns
-  pub start : UnitState
-  pub first : first_state scenario ≡ Some start
   pub last : Schedule
-  pub run : ScheduledRun scenario (schedule_from scenario start) turns last
+  pub reached : IsReached scenario turns last
   pub trace_is : IsTraceOfSchedule scenario last trace
   pub refused_is : refused ≡ list_any is_trapped last.world.controls
 

@@ -42,19 +42,19 @@ abbrev pub answer_text : List (List ℕ) → Answer → List ℕ
 answer_text names accepted = line (codes "accepted") []
 answer_text names (searched refusal search) = search_text names search
 
-abbrev pub is_found : Finding → Bool
-is_found (Found breach is_told) = true
-is_found (Safe worlds) = false
-is_found (Nothing worlds bound) = false
+abbrev pub is_unsafe : Finding → Bool
+is_unsafe (Found breach is_told) = true
+is_unsafe (Safe worlds) = false
+is_unsafe (Nothing worlds bound) = true
 
--- a breach was found
-abbrev pub is_breach : Answer → Bool
-is_breach accepted = false
-is_breach (searched refusal search) = is_found search
+-- a breach was found, or it isn't proved that there is none
+abbrev pub is_no : Answer → Bool
+is_no accepted = false
+is_no (searched refusal search) = is_unsafe search
 
 -- the text is a scenario, and these are the lines of an answer that holds of it
 abbrev pub IsWitnessOf : List ℕ → List ℕ → Bool → Type 0
-IsWitnessOf = IsAnswerOf Holds (λ s answer. answer_text (names_in s) answer) is_breach
+IsWitnessOf = IsAnswerOf Holds (λ s answer. answer_text (names_in s) answer) is_no
 
 -- What goes to the output. There are no words after the command's name that could be at fault, no trace and no thread.
 abbrev pub EndsWitness : Option (List ℕ) → Option (List ℕ) → Option (List ℕ) → Result Bool Fault → Type 0

@@ -6,14 +6,14 @@ ghost use Rattle.pr_cdb.specs.declared.codes.TheConstants.{MOST_NEXUSES};
 ghost use Rattle.pr_roles.specs.Scenarios.{scenario_of, task};
 ghost use Rattle.pr_trace.specs.TraceText.{names_of};
 ghost use Rattle.pr_explore.specs.Together.{exit_in};
-ghost use Rattle.pr_roles.specs.Tasks.{has_script};
 ghost use Rattle.pr_commands.specs.Asked.{ask_of, asks_of, exit_asked, exits_of, is_free};
 ghost use Rattle.pr_commands.specs.Steps.{texts_of};
 ghost use Rattle.pr_commands.specs.declared.asked.TheConstants.{EQUALS};
 
+use crate::saying::may_end_so;
 use pr_audit::End;
 use pr_lines::{amount_of, name_of, value_after};
-use pr_roles::{Nexus, Scenario, has_script};
+use pr_roles::{Nexus, Scenario};
 use pr_trace::number_of;
 use std::alloc::{AllocError, Global};
 
@@ -23,8 +23,8 @@ pub(crate) const EQUALS: u8 = b'=';
 // The last line that a send may have.
 pub(crate) const MOST_LINE: u64 = 4_294_967_295;
 
-/// Of each nexus the end that the words ask for, if they ask for one; none where a word is no such, names no script, or one a second
-/// time.
+/// Of each nexus the end that the words ask for, if they ask for one; none where a word is no such, names no script, or one a
+/// second time, or asks for an end that is nowhere in its script.
 pub(crate) fn asks_of(
     alloc: Global,
     scenario: &Scenario,
@@ -39,7 +39,7 @@ pub(crate) fn asks_of(
         let Some((host, end)) = ask_of(nexuses, word.as_bytes()) else {
             return Ok(None);
         };
-        if !has_script(scenario, host) || !is_free(&asked, host) {
+        if !may_end_so(scenario, host, &end) || !is_free(&asked, host) {
             return Ok(None);
         }
         asked[usize::from(host)] = Some(end);

@@ -38,12 +38,12 @@ enum Answered {
 }
 
 /// `fence ends`: reads a scenario, and writes which ends of its scripts come together. Words behind the text ask for one end each,
-/// as `a=won`, or `a=trapped:14` where a script is trapped at the send of a line: then it writes a run in which all scripts are over
-/// with those, if there is one, which is a refusal, or that there is none. Each end that it writes is that of a run, and where it
-/// says that they are all, or that no run ends so, that is so.
+/// as `a=won`, or `a=trapped:14` where a script is trapped at the send of a line: then it writes a run in which all scripts are
+/// over with those, if there is one, which is a refusal, or that there is none. Each end that it writes is that of a run, and where
+/// it says that they are all, or that no run ends so, that is so.
 ///
-/// A word that is no such, that names no script of the text, or one a second time, is a usage fault once the text is read. Of a text
-/// whose bytes the contract knows at most 65,537 are taken. A fault is told in one line on `errors`, whose own faults change
+/// A word that is no such, that names no script of the text, or one a second time, is a usage fault once the text is read. Of a
+/// text whose bytes the contract knows at most 65,537 are taken. A fault is told in one line on `errors`, whose own faults change
 /// nothing.
 pub fn do_ends<R: Read, W: Write, E: Write>(
     alloc: Global,
@@ -101,7 +101,7 @@ fn is_no(answered: &Answered) -> bool
     ensures { result ≡ is_no (answer_in answered.now) }
 {
     match answered {
-        Answered::Listed { .. } => false,
+        Answered::Listed { ends, .. } => !ends.are_all,
         Answered::Sought { sought, .. } => match sought {
             Sought::Found { .. } | Sought::Nothing { .. } => true,
             Sought::Never { .. } => false,

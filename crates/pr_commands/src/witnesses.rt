@@ -8,7 +8,7 @@ ghost use Rattle.pr_output.specs.PrintedLines.{line};
 ghost use Rattle.pr_trace.specs.TraceText.{names_under};
 ghost use Rattle.pr_output.specs.Written.{Writes};
 ghost use Rattle.pr_commands.specs.Endings.{IsCommandOver, EndsOver};
-ghost use Rattle.pr_commands.specs.Witnesses.{EndsWitness, bound_words, is_breach, search_text};
+ghost use Rattle.pr_commands.specs.Witnesses.{EndsWitness, bound_words, is_no, search_text};
 ghost use Rattle.pr_commands.specs.inside.Witnessed.{IsWitnessed, answer_in, witnessed_text};
 
 use crate::checks::settled;
@@ -53,7 +53,7 @@ pub fn do_witness<R: Read, W: Write, E: Write>(
     ended(errors, end)
 }
 
-// Searches, and then writes: whether a breach was found.
+// Searches, and then writes: whether a breach was found, or nothing is proved.
 fn witness_text<R: Read, W: Write>(
     alloc: Global,
     reader: &mut R,
@@ -64,7 +64,7 @@ fn witness_text<R: Read, W: Write>(
 {
     let witnessed = witness(alloc, reader)?;
     put_witnessed(writer, &witnessed)?;
-    Ok(is_breach(&witnessed))
+    Ok(is_no(&witnessed))
 }
 
 // Reads the text, verifies its scenario, and searches it where it is refused.
@@ -86,12 +86,15 @@ fn witness<R: Read>(alloc: Global, reader: &mut R) -> Result<Witnessed, Fault>
     }
 }
 
-fn is_breach(witnessed: &Witnessed) -> bool
-    ensures { result ≡ is_breach (answer_in witnessed.now) }
+fn is_no(witnessed: &Witnessed) -> bool
+    ensures { result ≡ is_no (answer_in witnessed.now) }
 {
     match witnessed {
         Witnessed::Accepted(_) => false,
-        Witnessed::Searched { search, .. } => matches!(search, Finding::Found { .. }),
+        Witnessed::Searched { search, .. } => match search {
+            Finding::Found { .. } | Finding::Nothing { .. } => true,
+            Finding::Safe { .. } => false,
+        },
     }
 }
 

@@ -1,11 +1,12 @@
 -- The ends that words ask for.
-use Rattle.pr_commands.proofs.Common.{◌≡◌, ℕ, zero, suc, Bool, true, List, [], ◌∷◌, Option, Some, None, refl, ap, ◌∙◌, option_and_then, replicate, slice_index_or, slice_get, Scenario, task, End, names_in, has_script, ask_of, asks_from, exits_of}
+use Rattle.pr_commands.proofs.Common.{◌≡◌, ℕ, zero, suc, Bool, true, List, [], ◌∷◌, Option, Some, None, refl, ap, ◌∙◌, option_and_then, replicate, slice_index_or, slice_get, Scenario, task, End, names_in, ask_of, asks_from, exits_of}
 use Rattle.std.proofs.Common.{◌&&◌, option_map, if◌then◌else◌}
 use Rattle.std.specs.Prelude.{slice_set}
 use Rattle.std.proofs.lemmas.List.{map-set}
 use Rattle.pr_explore.specs.Exits.{Exit}
 use Rattle.pr_explore.specs.Together.{exit_in}
 use Rattle.pr_commands.specs.Asked.{is_free, with_ask}
+use Rattle.pr_commands.specs.Sayings.{may_end_so}
 
 -- one more end is asked for
 pub exits_set : (asked : List (Option End)) (i : ℕ) (e : End) → exits_of (slice_set asked i (Some e)) ≡ slice_set (exits_of asked) i (Some (exit_in (Some e)))
@@ -35,6 +36,6 @@ module _ (s : Scenario) (asks : List (Option Exit)) (word : List ℕ) (words : L
   ask_none none = ap (λ o. rest (option_and_then (with_ask s asks) o)) none
 
   -- one that asks of a guest, or once more, asks for nothing; another asks for one end more
-  pub asked_so : (a : ℕ × Exit) (b : Bool) → ask_of (names_in s) word ≡ Some a → (has_script (task s a.0) && is_free (slice_index_or asks a.0 None)) ≡ b
+  pub asked_so : (a : ℕ × Exit) (b : Bool) → ask_of (names_in s) word ≡ Some a → (may_end_so a.1 (task s a.0) && is_free (slice_index_or asks a.0 None)) ≡ b
       → asks_from s asks (word ∷ words) ≡ rest (if b then Some (slice_set asks a.0 (Some a.1)) else None)
   asked_so a b is may = ap (λ o. rest (option_and_then (with_ask s asks) o)) is ∙ ap (λ x. rest (if x then Some (slice_set asks a.0 (Some a.1)) else None)) may

@@ -45,10 +45,8 @@ planned_trace steps text p r turns written named is = record {
   read = written;
   turns = turns;
   named = named;
-  start = is.start;
-  first = is.first;
   last = is.last;
-  run = is.run;
+  reached = record { start = is.start; first = is.first; allowed = is.allowed; scheduled = is.run; events = is.events; run = is.reached };
   trace_is = replays_are_traced (scenario_of p) is.last r is.outcome;
   refused_is = is.outcome.trapped;
 }

@@ -14,4 +14,4 @@ pub returns-clause-ends : goal.returns-clause-ends
 returns-clause-ends g c =
     let w = c.in_ok-witnessed.witnessed in
     let found = c.in_ok-witnessed.ensures.witnessed in
-    whole IsWitnessOf _ _ _ _ _ _ (answered _ _ _ _ (scenario_of (scenario_in w)) (answer_in w) found.0 found.1) c.is_breach.ensures c.in_ok-put_witnessed.ensures
+    whole IsWitnessOf _ _ _ _ _ _ (answered _ _ _ _ (scenario_of (scenario_in w)) (answer_in w) found.0 found.1) c.is_no.ensures c.in_ok-put_witnessed.ensures
