@@ -1,6 +1,6 @@
 //! `fence explain FILE`, over any reader, writer and error writer.
 
-ghost use Rattle.std.specs.Prelude.{◌+◌};
+ghost use Rattle.std.specs.Prelude.{◌+◌, ℕ, IfErr, Err, List, Option};
 ghost use Rattle.pr_text.specs.declared.text.TheConstants.{MOST_BYTES};
 ghost use Rattle.pr_text.specs.BytesRead.{LosesUpTo};
 ghost use Rattle.pr_commands.specs.Endings.{IsCommandOn};
@@ -8,7 +8,11 @@ ghost use Rattle.fence.specs.Explanations.{EndsTold};
 
 use crate::told::read_and_tell;
 use pr_commands::{ExitStatus, Fault, ended};
-use pr_explain::{explanation, lines_of, write_explanation};
+use pr_explain::{
+    Explanation, ends_of, explanation, inquiry, lines_of, write_explanation, write_inquiry,
+    write_prospects,
+};
+use pr_output::WriteFault;
 use std::alloc::Global;
 use std::io::{Read, Write};
 
@@ -29,8 +33,8 @@ pub fn do_explain<R: Read, W: Write, E: Write>(
     ended(errors, end)
 }
 
-// Reads the text, plans what is said of its scenario, and then writes: whether that is refused. Of a fault of the text the words go
-// out before its line.
+// Reads the text, plans what is said of its verdict, and writes that before it searches: whether the scenario is refused. Of a
+// fault of the text the words go out before its line.
 fn explain_text<R: Read, W: Write>(
     alloc: Global,
     reader: &mut R,
@@ -44,5 +48,37 @@ fn explain_text<R: Read, W: Write>(
     let lines = lines_of(alloc, &text)?;
     let explanation = explanation(alloc, scenario)?;
     write_explanation(writer, &lines, &explanation)?;
+    sent_on(writer)?;
+    write_found(alloc, writer, &lines, &explanation)?;
     Ok(explanation.is_refusal())
+}
+
+// Has the writer send on what it holds back: a search may take seconds.
+fn sent_on<W: Write>(writer: &mut W) -> Result<(), WriteFault> {
+    match writer.flush() {
+        Ok(()) => Ok(()),
+        Err(_) => Err(WriteFault),
+    }
+}
+
+// Searches, and writes what comes of it.
+fn write_found<W: Write>(
+    alloc: Global,
+    writer: &mut W,
+    lines: &[&[u8]],
+    explanation: &Explanation,
+) -> Result<(), Fault>
+    ensures { IfErr result (λ fault. (known : Option (List ℕ)) → EndsTold known (Err fault)) }
+{
+    match explanation {
+        Explanation::Accepted(accepted) => {
+            let ends = ends_of(alloc, &accepted.scenario)?;
+            write_prospects(writer, lines, accepted, ends.as_ref())?;
+        }
+        Explanation::Refused(refused) => {
+            let inquiry = inquiry(alloc, refused)?;
+            write_inquiry(writer, lines, refused, &inquiry)?;
+        }
+    }
+    Ok(())
 }

@@ -4,6 +4,7 @@
 
 mod explaining;
 mod listed;
+mod notice;
 mod several;
 mod source;
 mod told;
@@ -13,8 +14,9 @@ mod witnessed;
 
 use crate::explaining::do_explain;
 use crate::listed::{read_list, steps_in};
+use crate::notice::Notice;
 use crate::several::{Line, put_labelled, worse};
-use crate::source::{Peeked, Source, apart, open, open_beside, open_file};
+use crate::source::{Peeked, Source, apart, open, open_beside, opened, opened_or_told};
 use crate::traced::do_explain_trace;
 use crate::witnessed::{FIRST_LINE, do_explain_witness};
 use clap::error::ErrorKind;
@@ -23,6 +25,7 @@ use pr_commands::{
     ExitStatus, Fault, args_fault, do_audit, do_check, do_ends, do_outline, do_replay, do_run,
     do_table, do_witness, ended,
 };
+use pr_trace::TraceError;
 use std::io::Write;
 use std::process::ExitCode;
 use std::sync::Wait;
@@ -75,13 +78,13 @@ fn run_call<T: Threads + Wait + Sync>(
         Call::Check { paths } => Ok(check(rt, paths)),
         Call::Outline { path } => outline(rt, path),
         Call::Table { path, host } => table(rt, path, host),
-        Call::Witness { path } => witness(rt, path),
-        Call::Ends { path, asked } => ends(rt, path, asked),
+        Call::Witness { path } => witness(rt, threads, path),
+        Call::Ends { path, asked } => ends(rt, threads, path, asked),
         Call::Replay { path, steps } => replay(rt, path, steps),
         Call::ReplayListed { path, list } => replay_listed(rt, path, list),
         Call::Run { path } => run_threads(rt, threads, path),
         Call::Audit { path, trace } => audit(rt, path, trace),
-        Call::Explain { path, trace } => explain(rt, path, trace),
+        Call::Explain { path, trace } => explain(rt, threads, path, trace),
     }
 }
 
@@ -98,7 +101,7 @@ fn check_path<W: Write, E: Write>(
     output: &mut W,
     errors: &mut E,
 ) -> ExitStatus {
-    match open(rt, path) {
+    match opened(open(rt, path)) {
         Ok(mut text) => do_check(rt.alloc(), &mut text, output, errors),
         Err(fault) => ended(errors, Err(fault)),
     }
@@ -120,12 +123,12 @@ fn check_paths(rt: &HostRuntime, paths: &[&str]) -> ExitStatus {
 }
 
 fn outline(rt: &HostRuntime, path: &str) -> Result<ExitStatus, Fault> {
-    let mut text = open(rt, path)?;
+    let mut text = opened(open(rt, path))?;
     Ok(do_outline(rt.alloc(), &mut text, &mut rt.stdout(), &mut rt.stderr()))
 }
 
 fn table(rt: &HostRuntime, path: &str, host: &str) -> Result<ExitStatus, Fault> {
-    let mut text = open(rt, path)?;
+    let mut text = opened(open(rt, path))?;
     Ok(do_table(
         rt.alloc(),
         host,
@@ -135,24 +138,35 @@ fn table(rt: &HostRuntime, path: &str, host: &str) -> Result<ExitStatus, Fault> 
     ))
 }
 
-fn witness(rt: &HostRuntime, path: &str) -> Result<ExitStatus, Fault> {
-    let mut text = open(rt, path)?;
-    Ok(do_witness(rt.alloc(), &mut text, &mut rt.stdout(), &mut rt.stderr()))
+fn witness<T: Threads>(rt: &HostRuntime, threads: &T, path: &str) -> Result<ExitStatus, Fault> {
+    let mut text = opened(open(rt, path))?;
+    let notice = Notice::begin(rt, threads, &text);
+    let status = do_witness(rt.alloc(), &mut text, &mut rt.stdout(), &mut rt.stderr());
+    notice.end();
+    Ok(status)
 }
 
-fn ends(rt: &HostRuntime, path: &str, asked: &[&str]) -> Result<ExitStatus, Fault> {
-    let mut text = open(rt, path)?;
-    Ok(do_ends(
+fn ends<T: Threads>(
+    rt: &HostRuntime,
+    threads: &T,
+    path: &str,
+    asked: &[&str],
+) -> Result<ExitStatus, Fault> {
+    let mut text = opened(open(rt, path))?;
+    let notice = Notice::begin(rt, threads, &text);
+    let status = do_ends(
         rt.alloc(),
         asked,
         &mut text,
         &mut rt.stdout(),
         &mut rt.stderr(),
-    ))
+    );
+    notice.end();
+    Ok(status)
 }
 
 fn replay(rt: &HostRuntime, path: &str, steps: &[&str]) -> Result<ExitStatus, Fault> {
-    let mut text = open(rt, path)?;
+    let mut text = opened(open(rt, path))?;
     Ok(do_replay(
         rt.alloc(),
         steps,
@@ -164,9 +178,9 @@ fn replay(rt: &HostRuntime, path: &str, steps: &[&str]) -> Result<ExitStatus, Fa
 
 // `-` is standard input for one of the two, and the name of a file where that is taken. Both are opened before either is read.
 fn replay_listed(rt: &HostRuntime, path: &str, list: &str) -> Result<ExitStatus, Fault> {
-    let mut text = open(rt, path)?;
-    let mut list = open_beside(rt, &text, list)?;
-    apart(&text, &list)?;
+    let mut text = opened(open(rt, path))?;
+    let mut list = opened(open_beside(rt, &text, list))?;
+    apart(&text, &list, Fault::File)?;
     let list = read_list(rt.alloc(), &mut list)?;
     let steps = steps_in(rt.alloc(), &list)?;
     Ok(do_replay(
@@ -183,7 +197,7 @@ fn run_threads<T: Threads + Wait + Sync>(
     threads: &T,
     path: &str,
 ) -> Result<ExitStatus, Fault> {
-    let mut text = open(rt, path)?;
+    let mut text = opened(open(rt, path))?;
     Ok(do_run(
         threads,
         rt.alloc(),
@@ -193,11 +207,11 @@ fn run_threads<T: Threads + Wait + Sync>(
     ))
 }
 
-// `-` is standard input for the first alone. Both are opened before either is read.
+// `-` is standard input for one of the two, and the name of a file where that is taken. Both are opened before either is read.
 fn audit(rt: &HostRuntime, path: &str, trace: &str) -> Result<ExitStatus, Fault> {
-    let mut text = open(rt, path)?;
-    let mut trace = open_file(rt, trace)?;
-    apart(&text, &trace)?;
+    let mut text = opened(open(rt, path))?;
+    let mut trace = opened(open_beside(rt, &text, trace))?;
+    apart(&text, &trace, Fault::Trace(TraceError::ReadFault))?;
     Ok(do_audit(
         rt.alloc(),
         &mut text,
@@ -207,18 +221,30 @@ fn audit(rt: &HostRuntime, path: &str, trace: &str) -> Result<ExitStatus, Fault>
     ))
 }
 
-fn explain(rt: &HostRuntime, path: &str, trace: Option<&str>) -> Result<ExitStatus, Fault> {
-    let mut text = open(rt, path)?;
+fn explain<T: Threads>(
+    rt: &HostRuntime,
+    threads: &T,
+    path: &str,
+    trace: Option<&str>,
+) -> Result<ExitStatus, Fault> {
+    let mut text = opened_or_told(rt, path, open(rt, path))?;
     match trace {
         Some(trace) => explain_trace(rt, &mut text, trace),
-        None => Ok(do_explain(rt.alloc(), &mut text, &mut rt.stdout(), &mut rt.stderr())),
+        None => Ok(explain_verdict(rt, threads, &mut text)),
     }
+}
+
+fn explain_verdict<T: Threads>(rt: &HostRuntime, threads: &T, text: &mut Source) -> ExitStatus {
+    let notice = Notice::begin(rt, threads, text);
+    let status = do_explain(rt.alloc(), text, &mut rt.stdout(), &mut rt.stderr());
+    notice.end();
+    status
 }
 
 // `-` is standard input for one of the two, and the name of a file where that is taken. Both are opened before either is read.
 fn explain_trace(rt: &HostRuntime, text: &mut Source, path: &str) -> Result<ExitStatus, Fault> {
-    let mut trace = open_beside(rt, text, path)?;
-    apart(text, &trace)?;
+    let mut trace = opened_or_told(rt, path, open_beside(rt, text, path))?;
+    apart(text, &trace, Fault::Trace(TraceError::ReadFault))?;
     // (by its first line it may be a witness)
     let mut trace = Peeked::new(&mut trace);
     let (mut output, mut errors) = (rt.stdout(), rt.stderr());

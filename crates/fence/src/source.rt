@@ -3,9 +3,8 @@
 use arrayvec::ArrayVec;
 use pr_commands::{Fault, file_fault};
 use pr_text::ReadError;
-use pr_trace::TraceError;
 use std::fs::File;
-use std::io::{Read, Stdin};
+use std::io::{IsTerminal, Read, Stdin};
 use std::os::fd::{AsRawFd, RawFd};
 use std::{fs, io};
 
@@ -20,6 +19,16 @@ pub enum Source {
 
     /// A file that is open.
     File(File),
+}
+
+impl Source {
+    /// Whether somebody types it at a terminal.
+    pub fn is_typed(&self) -> bool {
+        match self {
+            Source::Input(input) => input.is_terminal(),
+            Source::File(_) => false,
+        }
+    }
 }
 
 impl Read for Source {
@@ -81,38 +90,48 @@ impl Read for Peeked<'_> {
 }
 
 /// The text at this path, where `-` is standard input.
-pub fn open(rt: &HostRuntime, path: &str) -> Result<Source, Fault> {
+pub fn open(rt: &HostRuntime, path: &str) -> io::Result<Source> {
     if path == "-" {
         return Ok(Source::Input(rt.stdin()));
     }
-    open_file(rt, path)
+    Ok(Source::File(fs::open(rt, path)?))
 }
 
-/// The file at this path, also where its name is `-`.
-pub fn open_file(rt: &HostRuntime, path: &str) -> Result<Source, Fault> {
-    match fs::open(rt, path) {
-        Ok(file) => Ok(Source::File(file)),
-        Err(error) => Err(file_fault(&error)),
-    }
-}
-
-/// The text at this path beside another one, where `-` is standard input if that isn't taken.
-pub fn open_beside(rt: &HostRuntime, other: &Source, path: &str) -> Result<Source, Fault> {
+/// The text at this path beside another one, where `-` is standard input, or the name of a file if that is taken.
+pub fn open_beside(rt: &HostRuntime, other: &Source, path: &str) -> io::Result<Source> {
     match other {
-        Source::Input(_) => open_file(rt, path),
+        Source::Input(_) => Ok(Source::File(fs::open(rt, path)?)),
         Source::File(_) => open(rt, path),
     }
 }
 
-/// Whether a scenario and its trace are two texts. Where standard input is closed, a file that is opened gets its descriptor, and
-/// what is then read as standard input would be the other text; so it is told as one that can't be read.
-pub fn apart(scenario: &Source, trace: &Source) -> Result<(), Fault> {
-    if descriptor(scenario) != descriptor(trace) {
+/// The text that was opened, or the fault that it can't be.
+pub fn opened(source: io::Result<Source>) -> Result<Source, Fault> {
+    source.map_err(|error| file_fault(&error))
+}
+
+/// The same, with the path and the reason in words on standard output. What that does not take of them is dropped.
+pub fn opened_or_told(
+    rt: &HostRuntime,
+    path: &str,
+    source: io::Result<Source>,
+) -> Result<Source, Fault> {
+    if let Err(error) = &source {
+        let _ = println!(rt; "{path} can't be opened: {error}.");
+    }
+    opened(source)
+}
+
+/// Whether a scenario and the text beside it are two. Where standard input is closed, a file that is opened gets its descriptor,
+/// and what is then read as standard input would be the other text; so that is told as one that can't be read, with this fault
+/// where it is the one beside the scenario.
+pub fn apart(scenario: &Source, beside: &Source, unread: Fault) -> Result<(), Fault> {
+    if descriptor(scenario) != descriptor(beside) {
         return Ok(());
     }
     match scenario {
         Source::Input(_) => Err(Fault::Input(ReadError::ReadFault)),
-        Source::File(_) => Err(Fault::Trace(TraceError::ReadFault)),
+        Source::File(_) => Err(unread),
     }
 }
 

@@ -3,11 +3,10 @@
 use crate::blocks::{OpenSends, sends_in_arm};
 use crate::costing::Cost;
 use crate::lint::Lint;
-use crate::lint_words::{is_meant, is_of_arm, is_spare, put_lint};
+use crate::lint_words::{half_armed, is_meant, is_of_arm, is_spare, put_lint};
 use crate::plan::AcceptedPlan;
 use crate::sheet::Sheet;
 use crate::source::first_word;
-use crate::together::put_together;
 use pr_output::{Token, WriteFault};
 use pr_roles::Parts;
 use pr_words::saying::line_number;
@@ -21,8 +20,9 @@ From every start that the scenario declares, and whatever order its commands com
   no script sends more commands than its budget,
   and each command of a script that ends GOOD is one that its role permits at that moment.
 So it is where the disk does as docs/MODEL.md says, guests keep their roles, commands reach the disk
-one at a time, and BUSY, TASK SET FULL and resets come no more often than the scenario says. It does
-not say that a script comes to its end, or that somebody gets the reservation, or is fenced.
+one at a time, BUSY, TASK SET FULL and resets come no more often than the scenario says, and nothing
+but a script takes unit attentions from its path. It does not say that a script comes to its end, or
+that somebody gets the reservation, or is fenced.
 
 ";
 
@@ -36,10 +36,7 @@ pub(crate) fn put_accepted<W: Write>(
             put_cost(sheet, nexus.name.as_str().as_bytes(), *cost)?;
         }
     }
-    if let Some(ends) = &accepted.ends {
-        put_together(sheet, ends)?;
-    }
-    put_lints(sheet, accepted.scenario.parts(), &accepted.lints)
+    Ok(())
 }
 
 fn put_cost<W: Write>(sheet: &mut Sheet<'_, W>, host: &[u8], cost: Cost) -> Result<(), WriteFault> {
@@ -58,16 +55,20 @@ fn put_cost<W: Write>(sheet: &mut Sheet<'_, W>, host: &[u8], cost: Cost) -> Resu
     )
 }
 
-// What is worth a look, and above it the arms that only another disk may want.
-fn put_lints<W: Write>(
+/// Writes what is worth a look, and above it the arms that only another disk may want.
+pub(crate) fn put_lints<W: Write>(
     sheet: &mut Sheet<'_, W>,
     parts: &Parts,
     lints: &[Lint],
 ) -> Result<(), WriteFault> {
     put_spare_arms(sheet, lints)?;
+    put_half_armed(sheet, lints)?;
     let mut is_first = true;
     for (place, lint) in lints.iter().enumerate() {
-        if is_meant(sheet.lines, *lint) || is_spare(sheet.lines, *lint) {
+        if is_meant(sheet.lines, *lint)
+            || is_spare(sheet.lines, *lint)
+            || half_armed(*lint).is_some()
+        {
             continue;
         }
         if is_first {
@@ -100,6 +101,26 @@ fn put_spare_arms<W: Write>(sheet: &mut Sheet<'_, W>, lints: &[Lint]) -> Result<
     sheet.put(before)?;
     put_lines_of_arms(sheet, lints)?;
     sheet.put(behind)
+}
+
+// The sends that lack an arm which another disk may want, all in one sentence.
+fn put_half_armed<W: Write>(sheet: &mut Sheet<'_, W>, lints: &[Lint]) -> Result<(), WriteFault> {
+    let sends = || lints.iter().filter_map(|lint| half_armed(*lint));
+    let (before, behind): (&[u8], &[u8]) = match sends().count() {
+        0 => return Ok(()),
+        1 => (b"\nThe send on line", b" has"),
+        _ => (b"\nThe sends on lines", b" have"),
+    };
+    sheet.put(before)?;
+    let mut comma = b"".as_slice();
+    for send in sends() {
+        sheet.say(b"{} {}", &[Token::Text(comma), line_number(send)])?;
+        comma = b",";
+    }
+    sheet.put(behind)?;
+    sheet.put(
+        b" no arm for every conflict, or none for every attention. Here none comes; a disk that answers in another order would trap the script there (docs/TARGETS.md).\n",
+    )
 }
 
 // The numbers of their lines, in order.

@@ -4,7 +4,7 @@ use crate::blocks::{end_of, statements_in};
 use crate::keys::is_keyless;
 use crate::lint_words::index_of;
 use crate::out_of_role::put_out_of_role_advice;
-use crate::plan::RefusedPlan;
+use crate::plan::Inquiry;
 use crate::refused_send::RefusedSend;
 use crate::sheet::{Sheet, key};
 use pr_cdb::codes::{ILLEGAL_REQUEST, UNIT_ATTENTION};
@@ -13,29 +13,32 @@ use pr_output::{Token, WriteFault};
 use pr_script::Class;
 use pr_script::limits::{MOST_ARMS, MOST_BUDGET, MOST_STATEMENTS};
 use pr_verify::{Refusal, Row};
+use pr_witness::Finding;
 use std::io::Write;
 
 /// Writes what would mend it.
 pub(crate) fn put_advice<W: Write>(
     sheet: &mut Sheet<'_, W>,
-    refused: &RefusedPlan,
+    refusal: Refusal,
+    inquiry: &Inquiry,
     send: Option<RefusedSend<'_>>,
 ) -> Result<(), WriteFault> {
-    if let Refusal::OverBudget { host, cost } = refused.refusal {
+    if let Refusal::OverBudget { host, cost } = refusal {
         return put_budget(sheet, sheet.name_of(host), cost);
     }
     match send {
         Some(send) => match send.unarmed {
-            Some(class) => put_arms(sheet, send, class),
-            None => put_out_of_role_advice(sheet, refused, send),
+            Some(class) => put_arms(sheet, inquiry, send, class),
+            None => put_out_of_role_advice(sheet, inquiry, send),
         },
         None => Ok(()),
     }
 }
 
-// The arms that are missing, and where they go.
+// The arms that are missing, and where they go. Where the scenario is safe, they are never taken.
 fn put_arms<W: Write>(
     sheet: &mut Sheet<'_, W>,
+    inquiry: &Inquiry,
     send: RefusedSend<'_>,
     class: Class,
 ) -> Result<(), WriteFault> {
@@ -50,8 +53,12 @@ change: what leads here, in the script or in the roles of the others.\n",
     if row.tests.len().saturating_add(wanted) > MOST_ARMS {
         put_crowded(sheet, row)?;
     } else {
+        sheet.put(match inquiry.finding {
+            Finding::Safe { .. } => b"\nTo have it accepted, too, write".as_slice(),
+            Finding::Found { .. } | Finding::Nothing { .. } => b"\nTo mend it, write",
+        })?;
         sheet.say(
-            b"\nTo mend it, write behind line {}, with a word of your own or with what is to be done then:\n",
+            b" behind line {}, with a word of your own or with what is to be done then:\n",
             &[Token::Number(end_of(sheet.lines, index_of(send.line)) as u64)],
         )?;
         put_missing(sheet, &row.unarmed)?;

@@ -2,29 +2,28 @@
 
 use crate::combination::Combination;
 use crate::fact::Fact;
+use crate::plan::RefusedPlan;
 use crate::refused_send::{RefusedSend, is_uncounted};
-use crate::showing::{Shown, first_refused};
-use pr_explore::{Bounds, Explorer, Goal};
+use crate::showing::first_refused;
+use pr_explore::{Explorer, Goal};
 use pr_roles::Scenario;
 use pr_unit::Unit;
-use pr_verify::{Refusal, Table};
 use pr_witness::Finding;
 use std::alloc::{AllocError, Global};
 
-/// For what a scenario is refused that is safe: facts of the view at the refused send that are never so all at once when it is sent,
-/// as few as can be. There are none where it is never sent. It promises nothing of what it finds.
+/// For what a scenario is refused that is safe, of which the explorer has seen all worlds: facts of the view at the refused send
+/// that are never so all at once when it is sent, as few as can be. There are none where it is never sent. It promises nothing of
+/// what it finds.
 pub(crate) fn forgotten(
     alloc: Global,
-    scenario: &Scenario,
-    refusal: Refusal,
-    tables: &[Table],
+    plan: &RefusedPlan,
     finding: &Finding,
-    bounds: Bounds,
+    explorer: &Explorer<'_>,
 ) -> Result<Option<Vec<Fact>>, AllocError> {
     let Finding::Safe { .. } = finding else {
         return Ok(None);
     };
-    let Some(refused) = RefusedSend::of(scenario, refusal, tables) else {
+    let Some(refused) = RefusedSend::of(&plan.scenario, plan.refusal, &plan.tables) else {
         return Ok(None);
     };
     // (whether the unit is busy hangs on nothing that may be so)
@@ -38,40 +37,11 @@ pub(crate) fn forgotten(
     let Some(shown) = first_refused(alloc, &refused)? else {
         return Ok(None);
     };
-    let mut explorer = Explorer::new(alloc, scenario, bounds)?;
-    never_together(alloc, scenario, &mut explorer, send, &shown)
-}
-
-// Which of the facts that are shown are never so all at once in a world in which this is about to be sent, as few as can be. (It is handed the
-// explorer, which its caller drops: a function that drops it at each of its ways out costs the prover two minutes more.)
-fn never_together(
-    alloc: Global,
-    scenario: &Scenario,
-    explorer: &mut Explorer<'_>,
-    send: Goal,
-    shown: &Shown,
-) -> Result<Option<Vec<Fact>>, AllocError> {
-    go_through(alloc, explorer)?;
-    if explorer.bound().is_some() {
-        return Ok(None);
-    }
-    let seen = seen_together(alloc, scenario, explorer, send, &shown.facts)?;
+    let seen = seen_together(alloc, &plan.scenario, explorer, send, &shown.facts)?;
     match Combination::least_beyond(&seen, shown.facts.len(), shown.chance) {
         Some(never) => Ok(Some(never.chosen(alloc, &shown.facts)?)),
         None => Ok(None),
     }
-}
-
-// Looks at all worlds, as far as the bounds let it.
-fn go_through(alloc: Global, explorer: &mut Explorer<'_>) -> Result<(), AllocError> {
-    let mut hits = Vec::new(alloc);
-    for _ in 0..u32::MAX {
-        if !explorer.expand(&mut hits)? {
-            return Ok(());
-        }
-        hits.truncate(0);
-    }
-    Ok(())
 }
 
 // Which of the facts are so all at once in a world in which this is about to be sent.

@@ -15,6 +15,11 @@ pub(crate) fn is_keyless(command: &Command) -> bool {
     admission_of(*command) == Admission::Own(0)
 }
 
+/// The reservation key that the command names, if it needs one.
+pub(crate) fn reservation_key(command: &Command) -> Option<u64> {
+    admission_of(*command).key().filter(|key| *key != 0)
+}
+
 /// Whether the arm waits for this key.
 pub(crate) fn waits_for_key(test: Test, key: u64) -> bool {
     matches!(test, Test::GoodHas(known) | Test::GoodHeld(known) if known == key)

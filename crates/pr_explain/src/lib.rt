@@ -1,7 +1,8 @@
 //! What `fence explain` says of a scenario's verdict: a plan of it, which is proved, and its words, which are tested.
 //!
-//! [`explanation`] makes the plan: the verdict, what a host can know where it is refused, a run that shows why, and what each
-//! script costs. [`write_explanation`] says it in words, with lines of the scenario's text.
+//! [`explanation`] makes the plan: the verdict, what a host can know where it is refused, and what each script costs.
+//! [`write_explanation`] says it in words, with lines of the scenario's text. What a search adds comes behind that: a run that
+//! shows why it is refused ([`inquiry`], [`write_inquiry`]), or which ends come together ([`ends_of`], [`write_prospects`]).
 #![tactic(auto)]
 
 mod accepting;
@@ -40,8 +41,8 @@ pub use costing::{Cost, costs};
 pub use covering::covers;
 pub use fact::Fact;
 pub use lint::Lint;
-pub use plan::{AcceptedPlan, Explanation, RefusedPlan};
-pub use planning::explanation;
+pub use plan::{AcceptedPlan, Explanation, Inquiry, RefusedPlan};
+pub use planning::{ends_of, explanation, inquiry};
 pub use senders::SentBy;
 pub use source::lines_of;
-pub use writing::write_explanation;
+pub use writing::{write_explanation, write_inquiry, write_prospects};

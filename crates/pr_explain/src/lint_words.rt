@@ -52,8 +52,28 @@ pub(crate) fn put_lint<W: Write>(
                 b"    has the reservation key 0 (--param-rk), with which nobody is registered: it never ends GOOD.\n",
             )
         }
+        Lint::NeverGood { host, line, key } => put_never_good(sheet, host, index_of(line), key),
+        // (that is said of all of them in one sentence)
+        Lint::HalfArmed { .. } => Ok(()),
         Lint::NoSuchReservation { alternative } => put_no_reservation(sheet, parts, alternative),
         Lint::NoSuchStart { host } => put_no_start(sheet, host),
+    }
+}
+
+// That a command never ends GOOD, and why, if that is its key.
+fn put_never_good<W: Write>(
+    sheet: &mut Sheet<'_, W>,
+    host: u8,
+    send: usize,
+    named: Option<u64>,
+) -> Result<(), WriteFault> {
+    sheet.put_line(send)?;
+    match named {
+        Some(named) => sheet.say(
+            b"    never ends GOOD, though it has an arm for that: {} does not have the key {} (--param-rk) here.\n",
+            &[Token::Text(sheet.name_of(host)), key(named)],
+        ),
+        None => sheet.put(b"    never ends GOOD here, though it has an arm for that.\n"),
     }
 }
 
@@ -74,6 +94,15 @@ pub(crate) fn is_meant(lines: &[&[u8]], lint: Lint) -> bool {
 /// Whether it is of an arm that no reply takes and in which nothing is sent: that costs nothing, and another disk may want it.
 pub(crate) fn is_spare(lines: &[&[u8]], lint: Lint) -> bool {
     never_taken(lines, lint).is_some_and(|arm| !sends_in_arm(lines, arm))
+}
+
+/// The index of the line of the send, if it is that this lacks an arm that only another disk may want.
+pub(crate) fn half_armed(lint: Lint) -> Option<usize> {
+    if let Lint::HalfArmed { line } = lint {
+        Some(index_of(line))
+    } else {
+        None
+    }
 }
 
 /// Whether it is that no reply takes the arm with this number of the send on the line with this index.

@@ -3,7 +3,7 @@
 use crate::advice::put_action;
 use crate::cause::{asked_of, loss_in, put_cause, put_told};
 use crate::losses::{Loss, command_at};
-use crate::plan::RefusedPlan;
+use crate::plan::Inquiry;
 use crate::refused_send::RefusedSend;
 use crate::senders::SentBy;
 use crate::sheet::{Sheet, key};
@@ -13,17 +13,26 @@ use pr_roles::{Action, Condition, Nexus, names};
 use pr_witness::{Breach, Broken, Finding};
 use std::io::Write;
 
-/// Writes what the role asks for, what in the run took that away, what to change in the script, and last the wider role.
+/// Writes what the role asks for, what in the run took that away, what to change in the script, and last the wider role. Where the
+/// scenario is safe, the command is never out of its role, and a wider one would permit what is not meant: so nothing is to be
+/// changed.
 pub(crate) fn put_out_of_role_advice<W: Write>(
     sheet: &mut Sheet<'_, W>,
-    refused: &RefusedPlan,
+    inquiry: &Inquiry,
     send: RefusedSend<'_>,
 ) -> Result<(), WriteFault> {
     put_asked(sheet, send)?;
-    match breach_in(&refused.finding, send) {
+    if let Finding::Safe { .. } = inquiry.finding {
+        return sheet.put(if asked_of(send).is_some() {
+            b"It holds whenever this command ends GOOD, so nothing is won by a wider role.\n".as_slice()
+        } else {
+            b"But it never ends GOOD, so nothing is won by a wider role.\n"
+        });
+    }
+    match breach_in(&inquiry.finding, send) {
         Some(breach) => {
             put_cause(sheet, breach, send)?;
-            put_mended_run(sheet, breach, &refused.senders, send)?;
+            put_mended_run(sheet, breach, &inquiry.senders, send)?;
         }
         None => put_mended_script(sheet, send)?,
     }

@@ -1,4 +1,4 @@
-//! What is said of a scenario.
+//! What is said of a scenario: what its verdict rests on, and what a search adds to that.
 
 ghost use Rattle.std.specs.Prelude.{◌≡◌};
 
@@ -8,7 +8,7 @@ use crate::lint::Lint;
 use crate::senders::SentBy;
 use pr_roles::Scenario;
 use pr_verify::{Refusal, Table};
-use pr_witness::{Ends, Finding};
+use pr_witness::Finding;
 
 /// What is said of a scenario that is accepted.
 #[derive(Drop)]
@@ -17,8 +17,6 @@ pub struct AcceptedPlan {
     /// Of each nexus that has a script, what that costs.
     pub costs: Vec<Option<Cost>>,
     pub lints: Vec<Lint>,
-    /// Which ends come together, where there are two scripts or more.
-    pub ends: Option<Ends>,
 }
 
 /// What is said of a scenario that is refused.
@@ -28,6 +26,11 @@ pub struct RefusedPlan {
     pub refusal: Refusal,
     /// What is known at each send of each script.
     pub tables: Vec<Table>,
+}
+
+/// What a search comes to of a scenario that is refused.
+#[derive(Drop)]
+pub struct Inquiry {
     pub finding: Finding,
     /// Of each item of the run that was found, by what it was sent.
     pub senders: Vec<SentBy>,

@@ -1,4 +1,5 @@
-//! The plan of what is said of a scenario's verdict.
+//! The plan of what is said of a scenario's verdict, and of what a search adds to it. The verdict is there in milliseconds, and a
+//! search may take seconds, so who writes both can write the one before the other is begun.
 
 ghost use Rattle.std.specs.Prelude.{◌≡◌, ◌↔◌, false, true, map, IfOk, IfSome};
 ghost use Rattle.pr_roles.specs.Safety.{IsSafe};
@@ -7,35 +8,31 @@ ghost use Rattle.pr_verify.specs.Outlines.{HaveOutlines};
 ghost use Rattle.pr_views.specs.Tables.{table_of};
 ghost use Rattle.pr_verify.specs.Tables.{AreTables};
 ghost use Rattle.pr_verify.specs.Verdicts.{IsFirstReason};
+ghost use Rattle.pr_witness.specs.Breaches.{IsFound};
 ghost use Rattle.pr_witness.specs.Ends.{AreEnds};
 ghost use Rattle.pr_explain.specs.Explanations.{Holds, is_refusal, scenario_in};
 
 use crate::costing::costs;
+use crate::fact::Fact;
 use crate::forgetting::forgotten;
 use crate::linting::lints;
-use crate::plan::{AcceptedPlan, Explanation, RefusedPlan};
+use crate::plan::{AcceptedPlan, Explanation, Inquiry, RefusedPlan};
 use crate::senders::senders;
+use pr_explore::Explorer;
 use pr_roles::{Scenario, Task};
 use pr_verify::{Refusal, Table, judge};
-use pr_witness::{Bounds, Ends, USUAL_BOUNDS, ends_together, search};
+use pr_witness::{Bounds, Ends, Finding, USUAL_BOUNDS, ends_together, search_by, search_on};
 use std::alloc::{AllocError, Global};
 
-/// How far a search goes for a run that is shown in words: a longer one nobody reads.
-pub(crate) const SHOWN_BOUNDS: Bounds = Bounds {
-    worlds: USUAL_BOUNDS.worlds,
-    depth: 64,
-    memory: USUAL_BOUNDS.memory,
-};
-
-/// How far it goes for ends that are told beside a verdict: who wants more of them asks `fence ends`.
+/// How far a search goes for ends that are told beside a verdict: who wants more of them asks `fence ends`.
 const ENDS_BOUNDS: Bounds = Bounds {
-    worlds: 100_000,
+    worlds: 10_000,
     depth: USUAL_BOUNDS.depth,
     memory: USUAL_BOUNDS.memory,
 };
 
-/// What is to be said of the scenario: that it is accepted, what its scripts cost, and which of their ends come together; or that it is refused, with the first
-/// reason, what its hosts can know at each send, and a run that shows why, if the search finds one.
+/// What is to be said of the scenario: that it is accepted, and what its scripts cost; or that it is refused, with the first
+/// reason, and what its hosts can know at each send.
 pub fn explanation(alloc: Global, scenario: Scenario) -> Result<Explanation, AllocError>
     ensures scenario { IfOk result (λ e. scenario_in e ≡ scenario) }
     ensures accepted { IfOk result (λ e. (is_refusal e ≡ false)
@@ -45,7 +42,7 @@ pub fn explanation(alloc: Global, scenario: Scenario) -> Result<Explanation, All
     let judged = judge(alloc, &scenario)?;
     match judged.refusal {
         None => accepted(alloc, scenario, &judged.tables),
-        Some(refusal) => refused(alloc, scenario, refusal, judged.tables),
+        Some(refusal) => Ok(refused(scenario, refusal, judged.tables)),
     }
 }
 
@@ -57,17 +54,15 @@ fn accepted(alloc: Global, scenario: Scenario, tables: &[Table]) -> Result<Expla
 {
     let costs = costs(alloc, &scenario.parts().nexuses)?;
     let lints = lints(alloc, &scenario, tables)?;
-    let ends = ends_of(alloc, &scenario)?;
     Ok(Explanation::Accepted(AcceptedPlan {
         scenario,
         costs,
         lints,
-        ends,
     }))
 }
 
-// Which ends come together, where there are two scripts or more.
-fn ends_of(alloc: Global, scenario: &Scenario) -> Result<Option<Ends>, AllocError>
+/// Which ends of a scenario come together, where it has two scripts or more.
+pub fn ends_of(alloc: Global, scenario: &Scenario) -> Result<Option<Ends>, AllocError>
     ensures { IfOk result (λ found. IfSome found (AreEnds (scenario_of scenario.now))) }
 {
     let scripts = scenario
@@ -82,27 +77,58 @@ fn ends_of(alloc: Global, scenario: &Scenario) -> Result<Option<Ends>, AllocErro
     Ok(Some(ends_together(alloc, scenario, ENDS_BOUNDS)?))
 }
 
-fn refused(
-    alloc: Global,
-    scenario: Scenario,
-    refusal: Refusal,
-    tables: Vec<Table>,
-) -> Result<Explanation, AllocError>
+fn refused(scenario: Scenario, refusal: Refusal, tables: Vec<Table>) -> Explanation
     requires reason { IsFirstReason (scenario_of scenario) refusal }
     requires tables { AreTables (scenario_of scenario) (map table_of tables.items) }
-    ensures scenario { IfOk result (λ e. scenario_in e ≡ scenario) }
-    ensures refused { IfOk result (λ e. is_refusal e ≡ true) }
-    ensures holds { IfOk result (Holds (scenario_of scenario)) }
+    ensures scenario { scenario_in result ≡ scenario }
+    ensures refused { is_refusal result ≡ true }
+    ensures holds { Holds (scenario_of scenario) result }
 {
-    let finding = search(alloc, &scenario, &refusal, SHOWN_BOUNDS)?;
-    let senders = senders(alloc, &scenario, &finding)?;
-    let forgotten = forgotten(alloc, &scenario, refusal, &tables, &finding, SHOWN_BOUNDS)?;
-    Ok(Explanation::Refused(RefusedPlan {
+    Explanation::Refused(RefusedPlan {
         scenario,
         refusal,
         tables,
+    })
+}
+
+/// Searches a scenario that is refused for a run that shows why, as `fence witness` does.
+pub fn inquiry(alloc: Global, refused: &RefusedPlan) -> Result<Inquiry, AllocError>
+    ensures { IfOk result (λ found. IsFound (scenario_of refused.now.scenario) refused.now.refusal
+        found.finding) }
+{
+    let scenario = &refused.scenario;
+    let (finding, forgotten) = first_search(alloc, refused)?;
+    let finding = search_on(alloc, scenario, &refused.refusal, USUAL_BOUNDS, finding)?;
+    let senders = senders(alloc, scenario, &finding)?;
+    Ok(Inquiry {
         finding,
         senders,
         forgotten,
-    }))
+    })
+}
+
+// What a search through all worlds comes to, and for what the scenario is refused where that says that it is safe.
+fn first_search(
+    alloc: Global,
+    refused: &RefusedPlan,
+) -> Result<(Finding, Option<Vec<Fact>>), AllocError>
+    ensures { IfOk result (λ found. IsFound (scenario_of refused.now.scenario) refused.now.refusal
+        found.0) }
+{
+    let mut explorer = Explorer::new(alloc, &refused.scenario, USUAL_BOUNDS)?;
+    first_by(alloc, refused, &mut explorer)
+}
+
+// The same by an explorer, which its caller drops.
+fn first_by(
+    alloc: Global,
+    refused: &RefusedPlan,
+    explorer: &mut Explorer<'_>,
+) -> Result<(Finding, Option<Vec<Fact>>), AllocError>
+    ensures { IfOk result (λ found. IsFound (scenario_of refused.now.scenario) refused.now.refusal
+        found.0) }
+{
+    let finding = search_by(alloc, &refused.scenario, &refused.refusal, explorer)?;
+    let forgotten = forgotten(alloc, refused, &finding, explorer)?;
+    Ok((finding, forgotten))
 }

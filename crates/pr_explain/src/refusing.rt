@@ -3,7 +3,7 @@
 use crate::advice::put_advice;
 use crate::blocks::{depth_behind, end_of};
 use crate::lint_words::index_of;
-use crate::plan::RefusedPlan;
+use crate::plan::{Inquiry, RefusedPlan};
 use crate::possible::put_possible;
 use crate::refused_send::RefusedSend;
 use crate::running::put_finding;
@@ -28,10 +28,26 @@ pub(crate) fn put_refused<W: Write>(
         &Verdict::Refused(refused.refusal),
     )?;
     sheet.put(b"\n")?;
-    let send = RefusedSend::of(&refused.scenario, refused.refusal, &refused.tables);
-    put_reason(sheet, refused.refusal, send)?;
-    put_finding(sheet, refused, send)?;
-    put_advice(sheet, refused, send)
+    put_reason(sheet, refused.refusal, send_of(refused))
+}
+
+/// Writes what a search came to, and what to change.
+pub(crate) fn put_inquiry<W: Write>(
+    sheet: &mut Sheet<'_, W>,
+    refused: &RefusedPlan,
+    inquiry: &Inquiry,
+) -> Result<(), WriteFault> {
+    if refused.refusal == Refusal::Memory {
+        return Ok(());
+    }
+    let send = send_of(refused);
+    put_finding(sheet, refused, inquiry, send)?;
+    put_advice(sheet, refused.refusal, inquiry, send)
+}
+
+// The send for which it is refused, if it is for one.
+fn send_of(refused: &RefusedPlan) -> Option<RefusedSend<'_>> {
+    RefusedSend::of(&refused.scenario, refused.refusal, &refused.tables)
 }
 
 // Where it is refused, and what may be there.

@@ -2,8 +2,7 @@
 
 use crate::lint_words::put_unused;
 use crate::linting::is_needed;
-use crate::plan::RefusedPlan;
-use crate::planning::SHOWN_BOUNDS;
+use crate::plan::{Inquiry, RefusedPlan};
 use crate::refused_send::{RefusedSend, table_of};
 use crate::senders::SentBy;
 use crate::sheet::{Sheet, command_number};
@@ -12,7 +11,7 @@ use crate::unseen::put_unseen;
 use pr_output::{Token, WriteFault};
 use pr_roles::{Action, Clause, Item, Nexus};
 use pr_verify::Table;
-use pr_witness::{Bound, Breach, Broken, Finding};
+use pr_witness::{Bound, Breach, Broken, Finding, USUAL_BOUNDS};
 use pr_words::{put_item, put_start};
 use std::io::Write;
 
@@ -20,18 +19,19 @@ use std::io::Write;
 pub(crate) fn put_finding<W: Write>(
     sheet: &mut Sheet<'_, W>,
     refused: &RefusedPlan,
+    inquiry: &Inquiry,
     send: Option<RefusedSend<'_>>,
 ) -> Result<(), WriteFault> {
-    match &refused.finding {
+    match &inquiry.finding {
         Finding::Found { breach, is_told } if *is_told || reaches_unarmed(breach.broken, send) => {
             sheet.put(b"\nIt comes to that, from this start:\n")?;
-            put_run(sheet, breach, &refused.senders)
+            put_run(sheet, breach, &inquiry.senders)
         }
         Finding::Found { breach, .. } => {
             sheet.put(
                 b"\nNo run was found that shows just this, but from this start something else goes wrong:\n",
             )?;
-            put_run(sheet, breach, &refused.senders)?;
+            put_run(sheet, breach, &inquiry.senders)?;
             sheet.put(
                 b"Mend this first: with these scripts and roles it does happen. What follows is for what `fence check`
 tells now.\n",
@@ -39,7 +39,7 @@ tells now.\n",
         }
         Finding::Safe { worlds } => {
             put_safe(sheet, *worlds)?;
-            put_unseen(sheet, send, refused.forgotten.as_deref())?;
+            put_unseen(sheet, send, inquiry.forgotten.as_deref())?;
             put_others(sheet, send, &refused.tables)
         }
         Finding::Nothing { worlds, bound } => {
@@ -62,11 +62,17 @@ fn reaches_unarmed(broken: Broken, send: Option<RefusedSend<'_>>) -> bool {
     }
 }
 
-// That nothing goes wrong with these scripts and roles.
+// That nothing goes wrong with these scripts and roles, what that rests on, and how a check lets it through.
 fn put_safe<W: Write>(sheet: &mut Sheet<'_, W>, worlds: usize) -> Result<(), WriteFault> {
     sheet.say(
-        b"\nThis is safe all the same: all {} states of disk and scripts that can come up were looked at, and nothing goes wrong in any of them. That is proved.",
+        b"\nYou can leave it so: this is safe all the same. All {} states of disk and scripts that can come up were looked at, and nothing goes wrong in any of them. That is proved, but for their number.\n",
         &[Token::Number(worlds as u64)],
+    )?;
+    sheet.put(
+        b"It rests on what `accepted` rests on, and so on this: nothing but a script looks at the disk by its path. On Linux multipathd and the kernel do, and take unit attentions away (docs/VERDICTS.md).\n",
+    )?;
+    sheet.put(
+        b"In CI call `fence witness FILE` in place of `fence check FILE`: its status is 0 where the scenario is accepted, and where it is safe.\n",
     )
 }
 
@@ -92,8 +98,8 @@ fn put_bound<W: Write>(sheet: &mut Sheet<'_, W>, bound: Bound) -> Result<(), Wri
     match bound {
         Bound::Worlds => sheet.put(b"The search looks at no more, and another may show it.\n"),
         Bound::Depth => sheet.say(
-            b"The search follows no run beyond {} steps. `fence witness` follows longer ones.\n",
-            &[Token::Number(u64::from(SHOWN_BOUNDS.depth))],
+            b"The search follows no run beyond {} steps.\n",
+            &[Token::Number(u64::from(USUAL_BOUNDS.depth))],
         ),
         Bound::Memory => {
             sheet.put(b"The search has no memory for more, and another may show it.\n")
@@ -108,11 +114,16 @@ fn put_help<W: Write>(sheet: &mut Sheet<'_, W>, bound: Bound) -> Result<(), Writ
             b"To see more, give the repeats of a copy smaller counts, and explain that.\n",
         );
     }
-    if bound == Bound::Depth || line_with(sheet.lines, "guest").is_none() {
+    if bound == Bound::Depth {
         return Ok(());
     }
+    if line_with(sheet.lines, "guest").is_some() {
+        return sheet.put(
+            b"To see more, give a copy fewer guests, their roles fewer clauses, or its lines start, pending and reservation fewer alternatives, and explain that.\n",
+        );
+    }
     sheet.put(
-        b"To see more, give a copy fewer guests, or their roles fewer clauses, and explain that.\n",
+        b"To see more, give the lines start, pending and reservation of a copy fewer alternatives, and explain that.\n",
     )
 }
 
@@ -165,6 +176,9 @@ pub(crate) fn changes(clause: &Clause) -> bool {
     clause.action != Action::Read && clause.action != Action::Write
 }
 
+/// Of a longer run only so many commands at its beginning and at its end are shown: nobody reads more.
+const MOST_SHOWN: usize = 32;
+
 // Writes the run: where it starts, each command with the line of the script that sends it, and what is broken then.
 fn put_run<W: Write>(
     sheet: &mut Sheet<'_, W>,
@@ -172,7 +186,15 @@ fn put_run<W: Write>(
     senders: &[SentBy],
 ) -> Result<(), WriteFault> {
     put_start(&mut sheet.writer, sheet.nexuses, &breach.run.start)?;
+    let count = breach.run.history.len();
     for (place, item) in breach.run.history.iter().enumerate() {
+        let behind = count.saturating_sub(place);
+        if place >= MOST_SHOWN && behind > MOST_SHOWN {
+            if place == MOST_SHOWN {
+                put_left_out(sheet, behind.saturating_sub(MOST_SHOWN))?;
+            }
+            continue;
+        }
         let line = match senders.get(place) {
             Some(SentBy::Line(line)) => Some(*line),
             Some(SentBy::Clause(_) | SentBy::Nothing) | None => None,
@@ -182,6 +204,14 @@ fn put_run<W: Write>(
     }
     put_broken(sheet, breach.broken)?;
     put_permissions(sheet, &breach.run.history, senders)
+}
+
+// That so many commands of the run come here that are not shown.
+fn put_left_out<W: Write>(sheet: &mut Sheet<'_, W>, count: usize) -> Result<(), WriteFault> {
+    sheet.say(
+        b".. (here come {} more, which `fence witness` writes)\n",
+        &[Token::Number(count as u64)],
+    )
 }
 
 // What the last of the commands breaks.

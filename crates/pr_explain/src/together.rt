@@ -16,14 +16,14 @@ pub(crate) fn put_together<W: Write>(
     if !ends.are_all {
         return sheet.put(
             b"
-More worlds can come up than were looked at here, so it is not told which words come together:
+More states can come up than were looked at here, so it is not told which words come together:
 `fence ends` looks at more of them.
 ",
         );
     }
     let count = ends.together.len();
     sheet.say(
-        b"\nIn all worlds that can come up, which are {}, the scripts stop together",
+        b"\nIn all states that can come up, which are {}, the scripts stop together",
         &[Token::Number(ends.worlds as u64)],
     )?;
     if count > MOST_TOLD {
@@ -36,7 +36,9 @@ More worlds can come up than were looked at here, so it is not told which words 
     for together in &ends.together {
         put_words(sheet, together)?;
     }
-    Ok(())
+    sheet.put(
+        b"That holds where nothing but a script looks at the disk by its path (docs/VERDICTS.md): multipathd and the kernel do.\n",
+    )
 }
 
 // The hosts and their words. (A script of a scenario that is accepted is never trapped.)

@@ -16,7 +16,7 @@ pub(crate) fn put_unseen<W: Write>(
     send: Option<RefusedSend<'_>>,
     forgotten: Option<&[Fact]>,
 ) -> Result<(), WriteFault> {
-    sheet.put(b" `fence check` can't see it: ")?;
+    sheet.put(b"The checker can't see it: ")?;
     match send {
         Some(
             RefusedSend {

@@ -1,14 +1,16 @@
 //! An explanation in words.
 
-use crate::accepting::put_accepted;
-use crate::plan::Explanation;
-use crate::refusing::put_refused;
+use crate::accepting::{put_accepted, put_lints};
+use crate::plan::{AcceptedPlan, Explanation, Inquiry, RefusedPlan};
+use crate::refusing::{put_inquiry, put_refused};
 use crate::sheet::Sheet;
+use crate::together::put_together;
 use pr_output::WriteFault;
+use pr_witness::Ends;
 use std::io::Write;
 
-/// Writes what is said of a scenario whose text has these lines. On a fault, the writer is not called again. A line of more than
-/// 100 columns goes on in the next, but for those of the text.
+/// Writes what is said of the verdict of a scenario whose text has these lines, before any search. On a fault, the writer is not
+/// called again. A line of more than 100 columns goes on in the next, but for those of the text.
 pub fn write_explanation<W: Write>(
     writer: &mut W,
     lines: &[&[u8]],
@@ -24,4 +26,31 @@ pub fn write_explanation<W: Write>(
             put_refused(&mut sheet, refused)
         }
     }
+}
+
+/// Writes the rest of what is said of one that is accepted: which ends come together, if they were looked for, and what is worth a
+/// look.
+pub fn write_prospects<W: Write>(
+    writer: &mut W,
+    lines: &[&[u8]],
+    accepted: &AcceptedPlan,
+    ends: Option<&Ends>,
+) -> Result<(), WriteFault> {
+    let mut sheet = Sheet::new(writer, lines, &accepted.scenario);
+    if let Some(ends) = ends {
+        put_together(&mut sheet, ends)?;
+    }
+    put_lints(&mut sheet, accepted.scenario.parts(), &accepted.lints)
+}
+
+/// Writes the rest of what is said of one that is refused: the run that shows why, or that it is safe all the same, and what to
+/// change.
+pub fn write_inquiry<W: Write>(
+    writer: &mut W,
+    lines: &[&[u8]],
+    refused: &RefusedPlan,
+    inquiry: &Inquiry,
+) -> Result<(), WriteFault> {
+    let mut sheet = Sheet::new(writer, lines, &refused.scenario);
+    put_inquiry(&mut sheet, refused, inquiry)
 }
