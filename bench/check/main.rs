@@ -141,11 +141,13 @@ fn command(host: usize, round: usize) -> String {
     }
 }
 
-/// The dearest texts that were found by climbing: one host with a script, and all others guests with the largest roles.
+/// The dearest texts that we know how to write: one host with a script, and all others guests with the largest roles.
 ///
-/// Its outer `repeat` registers its own key anew, in the reverse order of the keys, so that each round lets it have one key more. A
-/// guest that may preempt that key then makes one more reservation possible, and each send of the long arm has to be looked at
-/// again. There the host's keys walk through as many sets of six as there are sends, so that no view is met twice.
+/// Each guest may preempt the host's first key by five types, so that nearly all reservations are possible from the beginning. The
+/// outer `repeat` registers the host's key anew, in the reverse order of the keys, so that each round lets it have one key more. A
+/// guest that may preempt that key by the sixth type then makes one more reservation possible, and each send of the long arm, which
+/// comes before, has to be looked at again under all of them. There the host's keys walk through as many sets of six as there are
+/// sends, so that no view is met twice.
 fn dearest(hosts: usize) -> (String, usize) {
     let names = &NAMES[..hosts];
     let mut text = format!("{}keys 1 2 3 4 5 6 7 8 9 a b c\nhost a\n", first_line(hosts));
@@ -157,21 +159,16 @@ fn dearest(hosts: usize) -> (String, usize) {
     }
     text += "reservation 5:a\nrole a write\n";
     for (guest, name) in names.iter().enumerate().skip(1) {
-        text += &format!("role {name} preempt {} 3\n", twelfth(guest.min(10)));
-        let mut clauses = Vec::new();
-        for action in ["preempt c", "reserve"] {
-            for kind in [1, 3, 5, 6, 7, 8] {
+        text += &format!("role {name} preempt {} 3\n", twelfth(guest.min(11)));
+        for action in ["preempt 1", "reserve"] {
+            for kind in [1, 5, 6, 7, 8] {
                 for condition in ["", " if registered", " if reserved"] {
-                    clauses.push(format!("role {name} {action} {kind}{condition}\n"));
+                    text += &format!("role {name} {action} {kind}{condition}\n");
                 }
             }
         }
-        text += &clauses[..31].concat();
     }
     text += "script a budget 4096\nrepeat 2\n";
-    for place in (0..11).rev() {
-        text += &reregister(place, place + 1);
-    }
     text += "send read 0 8\non good\non attention\non conflict\n";
     for place in [0, 1, 2, 3, 4, 5] {
         text += &format!("send --out --register-ignore --param-sark={}\non good\non attention\ndone\n", twelfth(place));
@@ -180,7 +177,11 @@ fn dearest(hosts: usize) -> (String, usize) {
     for (from, to) in &walked {
         text += &reregister(*from, *to);
     }
-    text += "stop told\ndone\ndone\nend\n";
+    text += "stop told\ndone\n";
+    for place in (0..11).rev() {
+        text += &reregister(place, place + 1);
+    }
+    text += "done\nend\n";
     for name in &names[1..] {
         text += &format!("plan {name}\nend\n");
     }
