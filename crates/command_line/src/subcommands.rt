@@ -30,8 +30,9 @@ const EXPLAIN_CALL: &str =
     "For example: fence explain missing-arm.fence, or fence explain missing-arm.fence missing-arm.1.trace";
 
 /// What the words of a command line say: the subcommand `check` with one `FILE` or more, `outline`, `witness` or `run` with its
-/// `FILE`, `table` with its `FILE` and its `HOST`, `ends` with its `FILE` and any number of `END`, `replay` with its `FILE` and one `STEP` or more, or the path of a list of
-/// them behind `--steps`, `audit` with its `FILE` and its `TRACE`, or `explain` with its `FILE` and at most one `TRACE`.
+/// `FILE`, `table` with its `FILE` and its `HOST`, `ends` with its `FILE` and any number of `END`, `replay` with its `FILE` and one
+/// `STEP` or more, or the path of a list of them behind `--steps`, `audit` with its `FILE` and its `TRACE`, or `explain` with its
+/// `FILE` and at most one `TRACE`.
 pub fn matches_of<'a>(alloc: Global, words: &'a [String]) -> Result<ArgMatches<'a>, Error> {
     command(alloc)?.try_get_matches_from(words)
 }

@@ -10,8 +10,8 @@ use Rattle.pr_cdb.specs.declared.action.ServiceAction.{ServiceAction}
 use Rattle.pr_cdb.specs.declared.action.TheConstants.ServiceAction.{ALL}
 use Rattle.pr_cdb.specs.declared.action.ServiceAction.TheVariants.{ReadKeys, ReadReservation, ReportCapabilities, Register, RegisterIgnore, Reserve, Release, Clear, Preempt, PreemptAbort}
 
--- of a service action: where its data goes, the option that names it as in the manual of `sg_persist`, what the standard calls it, and
--- the fields that count for it
+-- of a service action: where its data goes, the option that names it as in the manual of `sg_persist`, what the standard calls it,
+-- and the fields that count for it
 pub record ActionFacts : Type 0 where
   pub direction : Direction
   pub option : List ℕ

@@ -1,6 +1,6 @@
 -- Agrees with docs/FORMATS.md, 'Ends'.
--- Which ends a script may come to by what is written in it: the words of its stops, `end` where it may run past its last statement, and
--- the lines of its sends, at which it may be trapped.
+-- Which ends a script may come to by what is written in it: the words of its stops, `end` where it may run past its last statement,
+-- and the lines of its sends, at which it may be trapped.
 use Rattle.std.specs.Prelude.{ℕ, Bool, true, false, ◌==◌, ◌&&◌, ◌||◌, List, Option, Some, None, bytes_eq, codes}
 use Rattle.pr_script.specs.Scripts.{Stmt, Stmts, Arms, sends, repeats, breaks, stops, none, more, no_arm, arm}
 use Rattle.pr_roles.specs.Scenarios.{Task, Scripted, Planned}

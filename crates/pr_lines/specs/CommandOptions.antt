@@ -61,7 +61,8 @@ with_options w (word ∷ ws) = option_of word >>= λ o. with_option w o >>= λ v
 abbrev pub command_in : ServiceAction → Written → Option Command
 command_in action w = if is_none w.rk && (is_none w.sark && is_none w.kind) then reserve_in_command (action_number action) WRITTEN_LENGTH else None
 
--- the commands of `--out`: a key that is not written is 0, one that does not count is dropped, and a type that counts has to be written
+-- the commands of `--out`: a key that is not written is 0, one that does not count is dropped, and a type that counts has to be
+-- written
 abbrev pub command_out : ServiceAction → Written → Option Command
 command_out action w =
     if is_none w.kind && has_type (row_of action).fields then None else reserve_out_command (action_number action) w.kind (unwrap_or w.rk 0) (unwrap_or w.sark 0)

@@ -46,8 +46,8 @@ pub record Sends (w : World) (h at : ℕ) (command : Command) (how : How) (v : W
   pub answer : TakenAnswer how w.unit h (Plain command) reply unit
   pub world : v ≡ after w h at (spelling command) reply unit
 
--- What h sends next, on which line of its script, and what is left of its plan then: the command that the script of a host is ready to
--- send, or the first that is left of a guest's plan.
+-- What h sends next, on which line of its script, and what is left of its plan then: the command that the script of a host is ready
+-- to send, or the first that is left of a guest's plan.
 abbrev pub next_by : Option Task → Option Standing → List Command → Option (ℕ × Command × List Command)
 next_by None standing planned = None
 next_by (Some (Scripted script budget)) None planned = None
@@ -71,8 +71,8 @@ is_passed_over how clauses u g c = is_plain how && is_held_back clauses u g c
 abbrev pub passes_over : Scenario → Schedule → ℕ → How → Command → Bool
 passes_over s x h how c = is_guest s h && is_passed_over how (role s h) x.world.unit h c
 
--- The turn of h, where what it sends is answered so. It sends its next command, or passes it over: then its plan alone is another. Where
--- there is no next command, nothing happens.
+-- The turn of h, where what it sends is answered so. It sends its next command, or passes it over: then its plan alone is another.
+-- Where there is no next command, nothing happens.
 pub data TurnAs (s : Scenario) (x : Schedule) (h : ℕ) (how : How) (y : Schedule) : Type 0 where
   sends : (line : ℕ) (c : Command) (left : List Command) → next_of s x h ≡ Some (line, c, left) → passes_over s x h how c ≡ false
       → Sends x.world h line c how y.world → y.plans ≡ slice_set x.plans h left → TurnAs s x h how y

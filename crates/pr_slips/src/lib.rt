@@ -1,5 +1,5 @@
-//! What was meant by a line that doesn't keep its shape: the word that can't stand there, with carets below it, what is wanted in its
-//! place, the nearest word, what people write so by habit of `sg_persist` and the shell, and the line as it was meant.
+//! What was meant by a line that doesn't keep its shape: the word that can't stand there, with carets below it, what is wanted in
+//! its place, the nearest word, what people write so by habit of `sg_persist` and the shell, and the line as it was meant.
 //!
 //! Which word it is comes from the reader (`pr_lines::Misfit`); here are words alone. That they say what is so is tested, against
 //! files; proved is that each call is safe, ends, and takes no memory.

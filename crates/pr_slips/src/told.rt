@@ -98,8 +98,8 @@ impl<'a> Told<'a> {
         }
     }
 
-    /// Says what was meant, with the text in place of `{}`, and writes the line with the text in place of the word. Where that can't
-    /// stand below the send, it says so.
+    /// Says what was meant, with the text in place of `{}`, and writes the line with the text in place of the word. Where that
+    /// can't stand below the send, it says so.
     pub fn put_meant<W: Write>(
         &self,
         writer: &mut W,

@@ -218,7 +218,8 @@ AddsReadings view place r readings old new =
     (s : Scope) (c : Command) (tests : List Test) → All (IsRightReading s c tests view place r) readings
     → Grows (view_in s view) c tests old new (λ u. Any (λ b. IsReadAt s view place r b u) readings)
 
--- what is so of registrations and reservation in the shown states of this region is in the tally, of the ways of no conflict and of this arm
+-- what is so of registrations and reservation in the shown states of this region is in the tally, of the ways of no conflict and of
+-- this arm
 abbrev pub AreTallied : Possibilities → Place → BitSet → Region → ℕ → Tally → Type 0
 AreTallied view place senders region arm t =
     (s : Scope) → IsPlace s view place → IsUniform senders → (u : UnitState) (i : Item) → IsAt (view_in s view) place senders region u
