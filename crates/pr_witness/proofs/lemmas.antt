@@ -1,4 +1,5 @@
 pub mod AllowedStarts
 pub mod Ends
 pub mod FollowedHistories
+pub mod Moments
 pub mod Refutations

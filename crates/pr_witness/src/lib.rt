@@ -8,6 +8,7 @@ mod certifying;
 mod ending;
 mod hit;
 mod laws;
+mod moment;
 mod retracing;
 mod searching;
 
@@ -17,6 +18,7 @@ pub use certifying::{certify, certify_run};
 pub use ending::{Ends, Sought, ends_together, run_that_ends};
 pub use hit::{class_of, last_class};
 pub use laws::{breaches_are_legal, breaches_refute_safety};
+pub use moment::run_to_moment;
 pub use pr_explore::{Bound, Bounds, Broken, Together};
 pub use retracing::machines_of;
 pub use searching::{Finding, USUAL_BOUNDS, search, search_by, search_on};
