@@ -1,8 +1,10 @@
 pub mod AuditedTraces
 pub mod Audits
 pub mod Checks
+pub mod EachWord
 pub mod Endings
 pub mod Ends
+pub mod Never
 pub mod Replays
 pub mod Runs
 pub mod Sayings

@@ -1,7 +1,12 @@
 pub mod FaultText
 pub mod Endings
 pub mod Ends
+pub mod EachWord
 pub mod EndsText
+pub mod Facts
+pub mod Never
+pub mod NeverText
+pub mod Questions
 pub mod Steps
 pub mod Tables
 pub mod WitnessText

@@ -1,12 +1,13 @@
 -- Agrees with docs/FORMATS.md, 'Replaying'.
 -- The steps of a replay: the nexuses that their words name, and how the commands of these are answered; or a reset.
-use Rattle.std.specs.Prelude.{ℕ, ◌-◌, ◌==◌, ◌&&◌, ◌||◌, Bool, nat_lt, nat_le, if◌then◌else◌, List, [], ◌∷◌, length, take, drop, codes, bytes_eq, Option, Some, map, option_map, option_and_then}
+use Rattle.std.specs.Prelude.{ℕ, ◌-◌, ◌==◌, ◌&&◌, ◌||◌, Bool, nat_lt, nat_le, if◌then◌else◌, List, length, take, drop, codes, bytes_eq, Option, Some, map, option_map}
 use Rattle.std.specs.Borrow.{Bor}
 use Rattle.pr_roles.specs.declared.how.How.{How}
 use Rattle.pr_roles.specs.declared.how.How.TheVariants as how
 use Rattle.pr_roles.specs.declared.step.Step.{Step}
 use Rattle.pr_roles.specs.declared.step.Step.TheVariants.{Of, Reset}
 use Rattle.pr_trace.specs.TraceReadings.{number_of}
+use Rattle.pr_commands.specs.EachWord.{each_of}
 use Rattle.pr_commands.specs.declared.replays.TheConstants.{MOST_STEPS}
 
 -- the words as a call has them
@@ -40,9 +41,7 @@ step_in version names word =
 
 -- all of them
 abbrev pub steps_of : ℕ → List (List ℕ) → List (List ℕ) → Option (List Step)
-steps_of version names [] = Some []
-steps_of version names (word ∷ words) =
-    option_and_then (λ step. option_map (λ steps. step ∷ steps) (steps_of version names words)) (step_in version names word)
+steps_of version names words = each_of (step_in version names) words
 
 -- no step, or more than there may be
 abbrev pub has_wrong_count : List (List ℕ) → Bool

@@ -6,4 +6,5 @@ pub mod Performances
 pub mod Witnessed
 pub mod FaultRows
 pub mod Gathering
+pub mod Questioned
 pub mod JudgedHosts

@@ -83,7 +83,7 @@ fn ask_of(nexuses: &[Nexus], word: &[u8]) -> Option<(u8, End)>
 }
 
 // Where the first of its equals signs stands.
-fn equals_of(word: &[u8]) -> Option<usize>
+pub(crate) fn equals_of(word: &[u8]) -> Option<usize>
     ensures place { result ≡ position (λ b. b == EQUALS) word.now }
     ensures within { IfSome result (λ i. i < length word.now) }
 {

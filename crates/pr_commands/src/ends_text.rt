@@ -97,7 +97,7 @@ fn put_trapped<W: Write>(writer: &mut W, name: &[u8], line: u32) -> Result<(), W
 }
 
 #[tactic(auto, unfolding(pr_output::specs::Printed::printed_word))]
-fn put_after<W: Write>(writer: &mut W, steps: u32) -> Result<(), WriteFault>
+pub(crate) fn put_after<W: Write>(writer: &mut W, steps: u32) -> Result<(), WriteFault>
     ensures { Writes W.Write writer (line (codes "after") (decimal steps ∷ [])) result }
 {
     put_line(
@@ -168,7 +168,7 @@ fn put_found<W: Write>(
 
 // That no run ends so, among so many worlds.
 #[tactic(auto, unfolding(pr_output::specs::Printed::printed_word))]
-fn put_never<W: Write>(writer: &mut W, worlds: usize) -> Result<(), WriteFault>
+pub(crate) fn put_never<W: Write>(writer: &mut W, worlds: usize) -> Result<(), WriteFault>
     ensures { Writes W.Write writer (line (codes "never") (decimal worlds ∷ [])) result }
 {
     put_line(
@@ -180,7 +180,7 @@ fn put_never<W: Write>(writer: &mut W, worlds: usize) -> Result<(), WriteFault>
 
 // The bound that was met, if one was, and how many worlds were looked at.
 #[tactic(auto, unfolding(pr_output::specs::Printed::printed_word))]
-fn put_bound<W: Write>(
+pub(crate) fn put_bound<W: Write>(
     writer: &mut W,
     worlds: usize,
     bound: Option<Bound>,

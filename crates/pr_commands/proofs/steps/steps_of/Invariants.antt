@@ -1,6 +1,6 @@
 -- The words before this one are the steps so far, whose nexuses are there.
 use Rattle.pr_commands.proofs.Common.{◌≡◌, length, drop, map, All, IsThere, names_of, steps_of}
-use Rattle.pr_commands.proofs.lemmas.Steps.Words.{onto}
+use Rattle.pr_commands.proofs.lemmas.EachWord.{onto}
 use Rattle.pr_commands.proofs.steps.steps_of.Given as goal
 
 abbrev pub invariant-loop-word : goal.invariant-loop-word
