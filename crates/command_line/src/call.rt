@@ -32,6 +32,12 @@ pub enum Call<'a> {
         asked: &'a [&'a str],
     },
 
+    /// Whether it never comes to that all is so for which these words ask, or a run to where it is.
+    Never {
+        path: &'a str,
+        asked: &'a [&'a str],
+    },
+
     /// The trace of these turns, each named by its nexus, or in version 2 another step.
     Replay {
         path: &'a str,
@@ -82,6 +88,10 @@ pub fn call_of<'a>(matches: &'a ArgMatches<'_>) -> Option<Call<'a>> {
         "ends" => Call::Ends {
             path: arguments.get_str("FILE")?,
             asked: arguments.get_strs("END").unwrap_or(&[]),
+        },
+        "never" => Call::Never {
+            path: arguments.get_str("FILE")?,
+            asked: arguments.get_strs("FACT").unwrap_or(&[]),
         },
         "replay" => replay_of(arguments)?,
         "run" => Call::Run {

@@ -7,7 +7,7 @@ use std::alloc::{AllocError, Global};
 const VERSION: &str = "0.1.0 (language fence 2, for rattle-kit-13f)";
 
 const STATUSES: &str =
-    "Exit status: 0 done, accepted, safe or legal, or no run ends as asked; 1 a script is refused or trapped, a witness is found, a run ends as asked, a bound ended a search, or a trace is illegal; 2 the command line is at fault, or help or version was asked for; \
+    "Exit status: 0 done, accepted, safe or legal, or no run ends or comes to be as asked; 1 a script is refused or trapped, a witness is found, a run ends or comes to be as asked, a bound ended a search, or a trace is illegal; 2 the command line is at fault, or help or version was asked for; \
 3 input or output is at fault; 4 memory ran out, or a thread could not be started. A fault is told in one line on standard error.";
 
 const CHECK_CALL: &str = "For example: fence check preempted-writer.fence";
@@ -20,6 +20,8 @@ const WITNESS_CALL: &str = "For example: fence witness missing-arm.fence";
 
 const ENDS_CALL: &str = "For example: fence ends race.fence, or fence ends race.fence a=won b=won";
 
+const NEVER_CALL: &str = "For example: fence never two-nodes.fence a=worked b:write";
+
 const REPLAY_CALL: &str = "For example: fence replay preempted-writer.fence a a b a";
 
 const RUN_CALL: &str = "For example: fence run race.fence";
@@ -30,15 +32,20 @@ const EXPLAIN_CALL: &str =
     "For example: fence explain missing-arm.fence, or fence explain missing-arm.fence missing-arm.1.trace";
 
 /// What the words of a command line say: the subcommand `check` with one `FILE` or more, `outline`, `witness` or `run` with its
-/// `FILE`, `table` with its `FILE` and its `HOST`, `ends` with its `FILE` and any number of `END`, `replay` with its `FILE` and one
-/// `STEP` or more, or the path of a list of them behind `--steps`, `audit` with its `FILE` and its `TRACE`, or `explain` with its
-/// `FILE` and at most one `TRACE`.
+/// `FILE`, `table` with its `FILE` and its `HOST`, `ends` with its `FILE` and any number of `END`, `never` with its `FILE` and any
+/// number of `FACT`, `replay` with its `FILE` and one `STEP` or more, or the path of a list of them behind `--steps`, `audit` with
+/// its `FILE` and its `TRACE`, or `explain` with its `FILE` and at most one `TRACE`.
 pub fn matches_of<'a>(alloc: Global, words: &'a [String]) -> Result<ArgMatches<'a>, Error> {
-    command(alloc)?.try_get_matches_from(words)
+    command(alloc, words)?.try_get_matches_from(words)
 }
 
-fn command<'a>(alloc: Global) -> Result<Command<'a>, AllocError> {
-    let command = Command::new(alloc, "fence")
+// The subcommands, in the order in which the help lists them.
+const NAMES: [&str; 10] = [
+    "check", "outline", "table", "witness", "ends", "never", "replay", "run", "audit", "explain",
+];
+
+fn command<'a>(alloc: Global, words: &[String]) -> Result<Command<'a>, AllocError> {
+    let mut command = Command::new(alloc, "fence")
         .about(
             "Verifies SCSI fencing scripts, runs them against one logical unit, and audits traces",
         )
@@ -46,22 +53,34 @@ fn command<'a>(alloc: Global) -> Result<Command<'a>, AllocError> {
         .after_help(STATUSES)
         .subcommand_required(true)
         .arg_required_else_help(true);
-    let command = with(command, check(alloc))?;
-    let command = with(command, outline(alloc))?;
-    let command = with(command, table(alloc))?;
-    let command = with(command, witness(alloc))?;
-    let command = with(command, ends(alloc))?;
-    let command = with(command, replay(alloc))?;
-    let command = with(command, run(alloc))?;
-    let command = with(command, audit(alloc))?;
-    with(command, explain(alloc))
+    let named = named(words);
+    for name in NAMES {
+        if named.is_none_or(|named| named == name) {
+            command = command.subcommand(subcommand(alloc, name)?)?;
+        }
+    }
+    Ok(command)
 }
 
-fn with<'a>(
-    command: Command<'a>,
-    subcommand: Result<Command<'a>, AllocError>,
-) -> Result<Command<'a>, AllocError> {
-    command.subcommand(subcommand?)
+// The subcommand that the words name. No other is built then, since building all takes as long as checking a small scenario.
+fn named(words: &[String]) -> Option<&'static str> {
+    let first = words.get(1)?;
+    NAMES.into_iter().find(|name| first.as_str() == *name)
+}
+
+fn subcommand<'a>(alloc: Global, name: &str) -> Result<Command<'a>, AllocError> {
+    match name {
+        "check" => check(alloc),
+        "outline" => outline(alloc),
+        "table" => table(alloc),
+        "witness" => witness(alloc),
+        "ends" => ends(alloc),
+        "never" => never(alloc),
+        "replay" => replay(alloc),
+        "run" => run(alloc),
+        "audit" => audit(alloc),
+        _ => explain(alloc),
+    }
 }
 
 fn check<'a>(alloc: Global) -> Result<Command<'a>, AllocError> {
@@ -110,6 +129,20 @@ fn ends<'a>(alloc: Global) -> Result<Command<'a>, AllocError> {
     Command::new(alloc, "ends")
         .about("Writes with which words the scripts end together")
         .after_help(ENDS_CALL)
+        .arg(file(alloc))?
+        .arg(asked)
+}
+
+fn never<'a>(alloc: Global) -> Result<Command<'a>, AllocError> {
+    let asked = Arg::new(alloc, "FACT")
+        .help(
+            "What is asked for: an end, as NAME=WORD or NAME=trapped:LINE, or NAME:write, NAME:read, NAME:registered, NAME:holder, or behind no- that it is not so, as NAME:no-holder",
+        )
+        .action(ArgAction::Append)
+        .num_args(1..);
+    Command::new(alloc, "never")
+        .about("Writes that what is asked for is never so all at once, or a run to where it is")
+        .after_help(NEVER_CALL)
         .arg(file(alloc))?
         .arg(asked)
 }

@@ -22,8 +22,8 @@ use crate::witnessed::{FIRST_LINE, do_explain_witness};
 use clap::error::ErrorKind;
 use command_line::{Call, call_of, matches_of};
 use pr_commands::{
-    ExitStatus, Fault, args_fault, do_audit, do_check, do_ends, do_outline, do_replay, do_run,
-    do_table, do_witness, ended,
+    ExitStatus, Fault, args_fault, do_audit, do_check, do_ends, do_never, do_outline, do_replay,
+    do_run, do_table, do_witness, ended,
 };
 use pr_trace::TraceError;
 use std::io::Write;
@@ -80,6 +80,7 @@ fn run_call<T: Threads + Wait + Sync>(
         Call::Table { path, host } => table(rt, path, host),
         Call::Witness { path } => witness(rt, threads, path),
         Call::Ends { path, asked } => ends(rt, threads, path, asked),
+        Call::Never { path, asked } => never(rt, threads, path, asked),
         Call::Replay { path, steps } => replay(rt, path, steps),
         Call::ReplayListed { path, list } => replay_listed(rt, path, list),
         Call::Run { path } => run_threads(rt, threads, path),
@@ -155,6 +156,25 @@ fn ends<T: Threads>(
     let mut text = opened(open(rt, path))?;
     let notice = Notice::begin(rt, threads, &text);
     let status = do_ends(
+        rt.alloc(),
+        asked,
+        &mut text,
+        &mut rt.stdout(),
+        &mut rt.stderr(),
+    );
+    notice.end();
+    Ok(status)
+}
+
+fn never<T: Threads>(
+    rt: &HostRuntime,
+    threads: &T,
+    path: &str,
+    asked: &[&str],
+) -> Result<ExitStatus, Fault> {
+    let mut text = opened(open(rt, path))?;
+    let notice = Notice::begin(rt, threads, &text);
+    let status = do_never(
         rt.alloc(),
         asked,
         &mut text,
