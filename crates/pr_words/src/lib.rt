@@ -22,7 +22,7 @@ pub use item::put_item;
 pub use reply::{put_class, put_reply};
 pub use sense::put_sense;
 pub use source_line::{line_in, lines_from, put_carets, put_source_line};
-pub use standing::{name_of, put_end, put_held, put_start, put_unit};
+pub use standing::{name_of, put_end, put_held, put_over, put_start, put_unit};
 pub use tale::write_telling;
 pub use telling::{Departure, Instead, Note, Telling, telling_from, telling_of};
 pub use wrapping::Wrapping;

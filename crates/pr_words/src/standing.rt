@@ -116,3 +116,21 @@ pub fn put_end<W: Write>(
     }
     put_filled(writer, b" sent {}\n", &[Token::Number(u64::from(sent))])
 }
+
+/// Writes the line behind an item with which the script of this name is over: that it stops there, and with which word, or that it
+/// is trapped.
+pub fn put_over<W: Write>(writer: &mut W, name: &[u8], end: End) -> Result<(), WriteFault> {
+    match end {
+        End::Stopped(word) => {
+            put_filled(writer, b"  {} stops with the word", &[Token::Text(name)])?;
+            let word = word.as_str().as_bytes();
+            put_filled(writer, b" {}\n", &[Token::Text(word)])
+        }
+        End::Trapped(line) => put_filled(
+            writer,
+            b"  {} is trapped at line {}: no arm takes this reply\n",
+            &[Token::Text(name), Token::Number(u64::from(line))],
+        ),
+        End::Ready(_) | End::Left(_) => Ok(()),
+    }
+}

@@ -4,7 +4,7 @@ use crate::command::put_command;
 use crate::item::put_item;
 use crate::reply::put_reply;
 use crate::saying::put_filled;
-use crate::standing::{name_of, put_end, put_unit};
+use crate::standing::{name_of, put_end, put_over, put_unit};
 use crate::telling::{Departure, Instead, Telling};
 use crate::wrapping::Wrapping;
 use pr_audit::End;
@@ -14,7 +14,8 @@ use pr_roles::{Entry, Item, Nexus, Scenario};
 use std::io::Write;
 
 /// Writes a history as it is told: each item, with the line of the script that it comes from, and behind one that isn't legal what
-/// would have been in its place; whether the history is legal, and how many items aren't; the unit, and how each nexus stands.
+/// would have been in its place, and behind the last of a script how that is over; whether the history is legal, and how many items
+/// aren't; the unit, and how each nexus stands.
 /// Behind an item that isn't legal it is told as if the answer had been right. A trace's own last lines are not told. A line of
 /// more than 100 columns goes on in the next, further in.
 pub fn write_telling<W: Write>(
@@ -48,6 +49,9 @@ fn put_items<W: Write>(
         }
         if let Some(at) = note.departure {
             put_departure(writer, nexuses, item, &telling.departures, at)?;
+        }
+        if let (Item::Sent(entry), Some(end)) = (item, note.end) {
+            put_over(writer, name_of(nexuses, entry.host), end)?;
         }
     }
     Ok(())

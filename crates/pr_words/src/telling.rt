@@ -26,6 +26,9 @@ pub struct Note {
 
     /// Which of the departures it is, where it isn't legal.
     pub departure: Option<usize>,
+
+    /// How the script of its sender is over with it, if it is.
+    pub end: Option<End>,
 }
 
 impl Note {
@@ -35,6 +38,7 @@ impl Note {
             line,
             is_out_of_role: false,
             departure: None,
+            end: None,
         }
     }
 }
@@ -154,22 +158,62 @@ fn follow(
     let mut notes = Vec::new(alloc);
     let mut departures = Vec::new(alloc);
     for (index, item) in history.iter().enumerate() {
-        let note = note_on(auditor, scenario, item);
-        if auditor.admits(scenario, &history[..index], item) {
-            notes.push(note)?;
-        } else {
-            notes.push(Note {
-                departure: Some(departures.len()),
-                ..Note::at(note.line)
-            })?;
-            departures.push(Departure {
-                place: index + 1,
-                instead: instead_of(auditor, scenario, item),
-            })?;
-            go_past(alloc, auditor, scenario, item)?;
+        let before = &history[..index];
+        let mut note = pass_item(alloc, auditor, scenario, before, item, &mut departures)?;
+        if note.line.is_some() {
+            note.end = end_with(auditor, scenario, item);
         }
+        notes.push(note)?;
     }
     Ok((notes, departures))
+}
+
+// What stands beside the item, but for how a script is over with it; it goes past the item.
+fn pass_item(
+    alloc: Global,
+    auditor: &mut Auditor,
+    scenario: &Scenario,
+    before: &[Item],
+    item: &Item,
+    departures: &mut Vec<Departure>,
+) -> Result<Note, AllocError>
+    requires { ActFor (scenario_of scenario.now) (world_at auditor.old []) }
+    ensures { ActFor (scenario_of scenario.now) (world_at auditor.new []) }
+{
+    let note = note_on(auditor, scenario, item);
+    if auditor.admits(scenario, before, item) {
+        return Ok(note);
+    }
+    let departure = Some(departures.len());
+    departures.push(Departure {
+        place: before.len().saturating_add(1),
+        instead: instead_of(auditor, scenario, item),
+    })?;
+    go_past(alloc, auditor, scenario, item)?;
+    Ok(Note {
+        departure,
+        ..Note::at(note.line)
+    })
+}
+
+// How the script of its sender is over behind the item, if it is.
+fn end_with(auditor: &Auditor, scenario: &Scenario, item: &Item) -> Option<End>
+    requires { ActFor (scenario_of scenario.now) (world_at auditor.now []) }
+{
+    match item {
+        Item::Sent(entry) if is_declared(scenario, entry.host) => {
+            over_at(auditor.end(entry.host, 0))
+        }
+        Item::Sent(_) | Item::Reset => None,
+    }
+}
+
+// The end, if it is one of a script that is over.
+fn over_at(end: End) -> Option<End> {
+    match end {
+        End::Stopped(_) | End::Trapped(_) => Some(end),
+        End::Ready(_) | End::Left(_) => None,
+    }
 }
 
 // Goes past an item that is taken as it is.
