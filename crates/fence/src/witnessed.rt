@@ -6,7 +6,8 @@ ghost use Rattle.pr_roles.specs.Scenarios.{scenario_of};
 use crate::told::read_and_tell;
 use crate::whole::{Unread, read_whole};
 use pr_attention::Pending;
-use pr_commands::{ExitStatus, Fault, ended};
+use pr_commands::{ExitStatus, Fault, ended, question_of};
+use pr_explain::write_moment;
 use pr_lines::{ScenarioLine, StartReservation, item_of, next_line, next_word};
 use pr_output::put;
 use pr_registry::{Held, Registry};
@@ -30,7 +31,7 @@ const STARTS: [&[u8]; 4] = [b"start", b"pending", b"reservation", b"generation"]
 const MOST_HEAD_LINES: u32 = 64;
 
 /// `fence explain FILE WITNESS`: reads a scenario and then a witness, and writes in words what happens in the run of it, from the
-/// start that it tells.
+/// start that it tells. Of one that `fence never` found it writes behind that why all is so at its end that was asked for.
 ///
 /// The status is that of an audit from there, and a fault is told as one of a trace.
 pub fn do_explain_witness<R: Read, T: Read, W: Write, E: Write>(
@@ -62,7 +63,52 @@ fn explain_run<R: Read, T: Read, W: Write>(
     put(writer, b"From this start:\n")?;
     put_start(writer, &scenario.parts().nexuses, &run.start)?;
     write_telling(writer, &scenario, &run.history, &telling)?;
+    if telling.illegal.is_none() {
+        write_asked(alloc, writer, &scenario, &text, &run)?;
+    }
     Ok(telling.illegal.is_some())
+}
+
+// Writes why that is so at the end of the run for which `fence never` was asked, where the text says that it was.
+fn write_asked<W: Write>(
+    alloc: Global,
+    writer: &mut W,
+    scenario: &Scenario,
+    text: &[u8],
+    run: &WitnessedRun,
+) -> Result<(), Fault> {
+    let Some(words) = asked_in(alloc, text)? else {
+        return Ok(());
+    };
+    let Some(question) = question_of(alloc, scenario, &words)? else {
+        return Ok(());
+    };
+    write_moment(writer, scenario, &run.start, &run.history, &question.facts)?;
+    Ok(())
+}
+
+// The words for which it was asked, by the second line of the text; none where that isn't `at WORD .. after STEPS`.
+fn asked_in(alloc: Global, text: &[u8]) -> Result<Option<Vec<&str>>, AllocError> {
+    let Some(line) = second_line(text) else {
+        return Ok(None);
+    };
+    let Some(asked) = line.strip_prefix("at ") else {
+        return Ok(None);
+    };
+    let mut words = Vec::new(alloc);
+    for word in asked.split_whitespace() {
+        if word == "after" {
+            return Ok(Some(words));
+        }
+        words.push(word)?;
+    }
+    Ok(None)
+}
+
+fn second_line(text: &[u8]) -> Option<&str> {
+    let (_, rest) = next_line(text)?;
+    let (line, _) = next_line(rest)?;
+    str::from_utf8(line).ok()
 }
 
 // Whether the unit has a nexus for each that the scenario declares.

@@ -32,6 +32,36 @@ pub(crate) fn end_of(lines: &[&[u8]], first: usize) -> usize {
     first
 }
 
+/// The index of the line that ends the send or repeat in which the line with this index stands.
+pub(crate) fn end_around(lines: &[&[u8]], at: usize) -> usize {
+    let mut depth = 1;
+    for (index, line) in lines.iter().enumerate().skip(at) {
+        depth = depth_behind(depth, first_word(line));
+        if depth == 0 {
+            return index;
+        }
+    }
+    at
+}
+
+/// The index of the line that begins the innermost repeat that is open before the line with this index.
+pub(crate) fn repeat_around(lines: &[&[u8]], at: usize) -> Option<usize> {
+    let mut open = OpenSends::new();
+    for (index, line) in lines.iter().enumerate().take(at) {
+        let _ = open.go_past(index, first_word(line));
+    }
+    let mut found = None;
+    for (index, _) in &open.open {
+        if lines
+            .get(*index)
+            .is_some_and(|line| is(first_word(line), "repeat"))
+        {
+            found = Some(*index);
+        }
+    }
+    found
+}
+
 /// The index of the line of its arm with this number, from 0.
 pub(crate) fn arm_of(lines: &[&[u8]], first: usize, arm: usize) -> usize {
     let mut depth = 0;

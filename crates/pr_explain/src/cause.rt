@@ -2,7 +2,7 @@
 
 use crate::losses::{Loss, command_at, loss_of, told_behind, unit_before_last};
 use crate::refused_send::RefusedSend;
-use crate::senders::SentBy;
+use crate::senders::{SentBy, SentItem, sent_by};
 use crate::sheet::{Sheet, command_number};
 use crate::stepping::is_met;
 use pr_cdb::{Command, Kind};
@@ -282,14 +282,14 @@ fn put_unreserved<W: Write>(
 pub(crate) fn put_told<W: Write>(
     sheet: &mut Sheet<'_, W>,
     breach: &Breach,
-    senders: &[SentBy],
+    senders: &[SentItem],
     host: u8,
     loss: Loss,
 ) -> Result<Option<u32>, WriteFault> {
     let Some((index, entry)) = told_behind(breach, host, loss.index) else {
         return Ok(None);
     };
-    let Some(SentBy::Line(line)) = senders.get(index) else {
+    let Some(SentBy::Line(line)) = sent_by(senders, index) else {
         return Ok(None);
     };
     sheet.say(
@@ -298,5 +298,5 @@ pub(crate) fn put_told<W: Write>(
     )?;
     put_reply(&mut sheet.writer, &entry.wire, &entry.reply)?;
     sheet.put(b".\n")?;
-    Ok(Some(*line))
+    Ok(Some(line))
 }

@@ -1,7 +1,7 @@
 //! What `fence check` takes into account at a send, though it never is so all at once.
 
+use crate::circumstance::Circumstance;
 use crate::combination::Combination;
-use crate::fact::Fact;
 use crate::plan::RefusedPlan;
 use crate::refused_send::{RefusedSend, is_uncounted};
 use crate::showing::first_refused;
@@ -19,7 +19,7 @@ pub(crate) fn forgotten(
     plan: &RefusedPlan,
     finding: &Finding,
     explorer: &Explorer<'_>,
-) -> Result<Option<Vec<Fact>>, AllocError> {
+) -> Result<Option<Vec<Circumstance>>, AllocError> {
     let Finding::Safe { .. } = finding else {
         return Ok(None);
     };
@@ -50,7 +50,7 @@ fn seen_together(
     scenario: &Scenario,
     explorer: &Explorer<'_>,
     send: Goal,
-    facts: &[Fact],
+    facts: &[Circumstance],
 ) -> Result<Vec<Combination>, AllocError> {
     let mut seen = Vec::new(alloc);
     for world in 0..explorer.worlds() {
@@ -65,7 +65,7 @@ fn seen_together(
 }
 
 // Which of them are so of the unit when this host sends.
-fn together(facts: &[Fact], unit: &Unit, host: u8) -> Combination {
+fn together(facts: &[Circumstance], unit: &Unit, host: u8) -> Combination {
     let mut together = Combination::NONE;
     for (place, fact) in facts.iter().enumerate() {
         if fact.is_so(unit, host) {

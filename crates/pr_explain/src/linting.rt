@@ -116,7 +116,8 @@ fn is_never_good(row: &Row) -> bool {
             .any(|(arm, test)| is_of_good(*test) && row.arms.contains(&arm))
 }
 
-fn is_of_good(test: Test) -> bool {
+/// Whether an arm that asks this takes some GOOD.
+pub(crate) fn is_of_good(test: Test) -> bool {
     match test {
         Test::Good | Test::GoodHas(_) | Test::GoodHeld(_) | Test::GoodUnheld => true,
         Test::Conflict | Test::Busy | Test::Full | Test::Attention | Test::Sense(_) => false,

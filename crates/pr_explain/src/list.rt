@@ -1,6 +1,6 @@
 //! The lists of a view.
 
-use crate::fact::Fact;
+use crate::circumstance::Circumstance;
 use pr_roles::key_at;
 use pr_sets::{BIT_SET_SIZE, BitSet, MOST, Wide};
 use pr_views::{Possibilities, View, count_of_reservations, reservation_at};
@@ -36,20 +36,20 @@ impl List {
     }
 
     /// What this item of the list says.
-    pub(crate) fn fact(self, view: &View, number: u8) -> Option<Fact> {
+    pub(crate) fn fact(self, view: &View, number: u8) -> Option<Circumstance> {
         match self {
-            List::Nexus(nexus) => Some(Fact::Key {
+            List::Nexus(nexus) => Some(Circumstance::Key {
                 nexus,
                 key: key_at(&view.keys, number),
             }),
             List::Reservation => {
                 if number < count_of_reservations(view.hosts) {
-                    Some(Fact::Reserved(reservation_at(view.hosts, number)))
+                    Some(Circumstance::Reserved(reservation_at(view.hosts, number)))
                 } else {
                     None
                 }
             }
-            List::Pending => Some(Fact::Pending(number)),
+            List::Pending => Some(Circumstance::Pending(number)),
         }
     }
 }

@@ -5,7 +5,7 @@ use crate::cause::{asked_of, loss_in, put_cause, put_told};
 use crate::losses::{Loss, command_at};
 use crate::plan::Inquiry;
 use crate::refused_send::RefusedSend;
-use crate::senders::SentBy;
+use crate::senders::{SentBy, SentItem, sent_by};
 use crate::sheet::{Sheet, key};
 use pr_output::{Token, WriteFault};
 use pr_roles::limits::MOST_CLAUSES;
@@ -77,7 +77,7 @@ fn put_asked<W: Write>(sheet: &mut Sheet<'_, W>, send: RefusedSend<'_>) -> Resul
 fn put_mended_run<W: Write>(
     sheet: &mut Sheet<'_, W>,
     breach: &Breach,
-    senders: &[SentBy],
+    senders: &[SentItem],
     send: RefusedSend<'_>,
 ) -> Result<(), WriteFault> {
     let Some(loss) = loss_in(breach, send) else {
@@ -93,10 +93,10 @@ fn put_mended_run<W: Write>(
 }
 
 // The line of the script by which the nexus itself gave up what its role asks for, if it did.
-fn own_line(breach: &Breach, senders: &[SentBy], host: u8, loss: Loss) -> Option<u32> {
+fn own_line(breach: &Breach, senders: &[SentItem], host: u8, loss: Loss) -> Option<u32> {
     let (sender, _) = command_at(&breach.run.history, loss.index)?;
-    match senders.get(loss.index) {
-        Some(SentBy::Line(line)) if sender == host => Some(*line),
+    match sent_by(senders, loss.index) {
+        Some(SentBy::Line(line)) if sender == host => Some(line),
         Some(SentBy::Line(_) | SentBy::Clause(_) | SentBy::Nothing) | None => None,
     }
 }

@@ -2,10 +2,11 @@
 
 ghost use Rattle.std.specs.Prelude.{◌≡◌};
 
+use crate::circumstance::Circumstance;
 use crate::costing::Cost;
-use crate::fact::Fact;
 use crate::lint::Lint;
-use crate::senders::SentBy;
+use crate::preempting::Taking;
+use crate::senders::SentItem;
 use pr_roles::Scenario;
 use pr_verify::{Refusal, Table};
 use pr_witness::Finding;
@@ -17,6 +18,8 @@ pub struct AcceptedPlan {
     /// Of each nexus that has a script, what that costs.
     pub costs: Vec<Option<Cost>>,
     pub lints: Vec<Lint>,
+    /// Of which hosts to ask whether they fence.
+    pub takings: Vec<Taking>,
 }
 
 /// What is said of a scenario that is refused.
@@ -33,10 +36,10 @@ pub struct RefusedPlan {
 pub struct Inquiry {
     pub finding: Finding,
     /// Of each item of the run that was found, by what it was sent.
-    pub senders: Vec<SentBy>,
+    pub senders: Vec<SentItem>,
     /// Of one that is safe all the same: for what it is refused, which never is so at once when the refused line is sent; nothing
     /// where that is never sent.
-    pub forgotten: Option<Vec<Fact>>,
+    pub forgotten: Option<Vec<Circumstance>>,
 }
 
 /// What is said of a scenario.

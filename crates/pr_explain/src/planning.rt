@@ -12,11 +12,12 @@ ghost use Rattle.pr_witness.specs.Breaches.{IsFound};
 ghost use Rattle.pr_witness.specs.Ends.{AreEnds};
 ghost use Rattle.pr_explain.specs.Explanations.{Holds, is_refusal, scenario_in};
 
+use crate::circumstance::Circumstance;
 use crate::costing::costs;
-use crate::fact::Fact;
 use crate::forgetting::forgotten;
 use crate::linting::lints;
 use crate::plan::{AcceptedPlan, Explanation, Inquiry, RefusedPlan};
+use crate::preempting::takings;
 use crate::senders::senders;
 use pr_explore::Explorer;
 use pr_roles::{Scenario, Task};
@@ -54,10 +55,12 @@ fn accepted(alloc: Global, scenario: Scenario, tables: &[Table]) -> Result<Expla
 {
     let costs = costs(alloc, &scenario.parts().nexuses)?;
     let lints = lints(alloc, &scenario, tables)?;
+    let takings = takings(alloc, &scenario, tables)?;
     Ok(Explanation::Accepted(AcceptedPlan {
         scenario,
         costs,
         lints,
+        takings,
     }))
 }
 
@@ -111,7 +114,7 @@ pub fn inquiry(alloc: Global, refused: &RefusedPlan) -> Result<Inquiry, AllocErr
 fn first_search(
     alloc: Global,
     refused: &RefusedPlan,
-) -> Result<(Finding, Option<Vec<Fact>>), AllocError>
+) -> Result<(Finding, Option<Vec<Circumstance>>), AllocError>
     ensures { IfOk result (λ found. IsFound (scenario_of refused.now.scenario) refused.now.refusal
         found.0) }
 {
@@ -124,7 +127,7 @@ fn first_by(
     alloc: Global,
     refused: &RefusedPlan,
     explorer: &mut Explorer<'_>,
-) -> Result<(Finding, Option<Vec<Fact>>), AllocError>
+) -> Result<(Finding, Option<Vec<Circumstance>>), AllocError>
     ensures { IfOk result (λ found. IsFound (scenario_of refused.now.scenario) refused.now.refusal
         found.0) }
 {

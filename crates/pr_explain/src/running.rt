@@ -4,15 +4,16 @@ use crate::lint_words::put_unused;
 use crate::linting::is_needed;
 use crate::plan::{Inquiry, RefusedPlan};
 use crate::refused_send::{RefusedSend, table_of};
-use crate::senders::SentBy;
+use crate::senders::{SentBy, SentItem, sent_by};
 use crate::sheet::{Sheet, command_number};
 use crate::source::{line_of, line_with};
 use crate::unseen::put_unseen;
+use pr_audit::End;
 use pr_output::{Token, WriteFault};
 use pr_roles::{Action, Clause, Item, Nexus};
 use pr_verify::Table;
 use pr_witness::{Bound, Breach, Broken, Finding, USUAL_BOUNDS};
-use pr_words::{put_item, put_start};
+use pr_words::{put_item, put_over, put_start};
 use std::io::Write;
 
 /// Writes a run that shows why it is refused, or that none was found.
@@ -183,7 +184,7 @@ const MOST_SHOWN: usize = 32;
 fn put_run<W: Write>(
     sheet: &mut Sheet<'_, W>,
     breach: &Breach,
-    senders: &[SentBy],
+    senders: &[SentItem],
 ) -> Result<(), WriteFault> {
     put_start(&mut sheet.writer, sheet.nexuses, &breach.run.start)?;
     let count = breach.run.history.len();
@@ -195,15 +196,57 @@ fn put_run<W: Write>(
             }
             continue;
         }
-        let line = match senders.get(place) {
-            Some(SentBy::Line(line)) => Some(*line),
-            Some(SentBy::Clause(_) | SentBy::Nothing) | None => None,
-        };
-        let number = (place as u64).saturating_add(1);
-        put_item(&mut sheet.writer, sheet.nexuses, number, item, line)?;
+        put_sent(sheet, senders, place, item)?;
+        if behind == 1 {
+            put_broken(sheet, breach.broken)?;
+        }
+        put_end_with(sheet, breach.broken, senders, place, item)?;
     }
-    put_broken(sheet, breach.broken)?;
     put_permissions(sheet, &breach.run.history, senders)
+}
+
+// Writes an item of the run.
+fn put_sent<W: Write>(
+    sheet: &mut Sheet<'_, W>,
+    senders: &[SentItem],
+    place: usize,
+    item: &Item,
+) -> Result<(), WriteFault> {
+    let line = match sent_by(senders, place) {
+        Some(SentBy::Line(line)) => Some(line),
+        Some(SentBy::Clause(_) | SentBy::Nothing) | None => None,
+    };
+    let number = (place as u64).saturating_add(1);
+    put_item(&mut sheet.writer, sheet.nexuses, number, item, line)
+}
+
+// Writes that the script of its sender is over with this item, if it is, and not that as what is broken.
+fn put_end_with<W: Write>(
+    sheet: &mut Sheet<'_, W>,
+    broken: Broken,
+    senders: &[SentItem],
+    place: usize,
+    item: &Item,
+) -> Result<(), WriteFault> {
+    let Item::Sent(entry) = item else {
+        return Ok(());
+    };
+    let Some(end) = senders.get(place).and_then(|sending| sending.end) else {
+        return Ok(());
+    };
+    if shows(broken, entry.host, &end) {
+        return Ok(());
+    }
+    let name = sheet.name_of(entry.host);
+    put_over(&mut sheet.writer, name, end)
+}
+
+// Whether it is broken that the script of this host is over so.
+fn shows(broken: Broken, of: u8, end: &End) -> bool {
+    match (broken, end) {
+        (Broken::NoArm { host, line }, End::Trapped(at)) => host == of && line == *at,
+        (Broken::NoArm { .. } | Broken::OutOfRole { .. } | Broken::OverBudget { .. }, _) => false,
+    }
 }
 
 // That so many commands of the run come here that are not shown.
@@ -239,14 +282,14 @@ fn put_broken<W: Write>(sheet: &mut Sheet<'_, W>, broken: Broken) -> Result<(), 
 fn put_permissions<W: Write>(
     sheet: &mut Sheet<'_, W>,
     history: &[Item],
-    senders: &[SentBy],
+    senders: &[SentItem],
 ) -> Result<(), WriteFault> {
-    for (place, sent) in history.iter().zip(senders).enumerate() {
-        let (Item::Sent(entry), SentBy::Clause(clause)) = sent else {
+    for (place, (item, sending)) in history.iter().zip(senders).enumerate() {
+        let (Item::Sent(entry), SentBy::Clause(clause)) = (item, sending.by) else {
             continue;
         };
         let guest = sheet.name_of(entry.host);
-        if let Some(index) = line_of(sheet.lines, b"role", guest, *clause) {
+        if let Some(index) = line_of(sheet.lines, b"role", guest, clause) {
             sheet.say(
                 b"Command {} is one that the role of {} permits:\n",
                 &[command_number(place), Token::Text(guest)],

@@ -1,7 +1,7 @@
 //! A state of the unit that a view shows, and in which a send is refused.
 
+use crate::circumstance::Circumstance;
 use crate::combination::Combination;
-use crate::fact::Fact;
 use crate::list::List;
 use crate::refused_send::RefusedSend;
 use pr_sets::MOST;
@@ -12,7 +12,7 @@ use std::alloc::{AllocError, Global};
 #[derive(Drop)]
 pub(crate) struct Shown {
     /// What is so in it, a fact for each list of the view.
-    pub facts: Vec<Fact>,
+    pub facts: Vec<Circumstance>,
     /// Those of them that aren't so in each shown state in which the send is refused.
     pub chance: Combination,
 }

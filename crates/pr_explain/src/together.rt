@@ -6,6 +6,10 @@ use pr_output::{Token, WriteFault};
 use pr_witness::{Ends, Together};
 use std::io::Write;
 
+/// What the answers of a search rest on.
+pub(crate) const UNSEEN: &[u8] =
+    b"That holds where nothing but a script looks at the disk by its path (docs/VERDICTS.md): multipathd and the kernel do.\n";
+
 /// More of them nobody reads.
 const MOST_TOLD: usize = 16;
 
@@ -36,9 +40,7 @@ More states can come up than were looked at here, so it is not told which words 
     for together in &ends.together {
         put_words(sheet, together)?;
     }
-    sheet.put(
-        b"That holds where nothing but a script looks at the disk by its path (docs/VERDICTS.md): multipathd and the kernel do.\n",
-    )
+    sheet.put(UNSEEN)
 }
 
 // The hosts and their words. (A script of a scenario that is accepted is never trapped.)

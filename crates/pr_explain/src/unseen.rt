@@ -1,6 +1,6 @@
 //! Why `fence check` can't see that a scenario is safe, in words.
 
-use crate::fact::Fact;
+use crate::circumstance::Circumstance;
 use crate::possible::put_attentions;
 use crate::refused_send::{RefusedSend, is_uncounted};
 use crate::sheet::{Sheet, key};
@@ -14,7 +14,7 @@ use std::io::Write;
 pub(crate) fn put_unseen<W: Write>(
     sheet: &mut Sheet<'_, W>,
     send: Option<RefusedSend<'_>>,
-    forgotten: Option<&[Fact]>,
+    forgotten: Option<&[Circumstance]>,
 ) -> Result<(), WriteFault> {
     sheet.put(b"The checker can't see it: ")?;
     match send {
@@ -47,7 +47,7 @@ fn put_uncounted<W: Write>(sheet: &mut Sheet<'_, W>, class: Class) -> Result<(),
 fn put_forgotten<W: Write>(
     sheet: &mut Sheet<'_, W>,
     send: RefusedSend<'_>,
-    forgotten: Option<&[Fact]>,
+    forgotten: Option<&[Circumstance]>,
 ) -> Result<(), WriteFault> {
     match forgotten {
         None => put_apart(sheet, send.line),
@@ -84,7 +84,7 @@ fn put_no_send<W: Write>(
 fn put_never<W: Write>(
     sheet: &mut Sheet<'_, W>,
     send: RefusedSend<'_>,
-    fact: Fact,
+    fact: Circumstance,
 ) -> Result<(), WriteFault> {
     put_unremembered(sheet, send.host)?;
     sheet.say(
@@ -99,7 +99,7 @@ fn put_never<W: Write>(
 fn put_never_together<W: Write>(
     sheet: &mut Sheet<'_, W>,
     send: RefusedSend<'_>,
-    facts: &[Fact],
+    facts: &[Circumstance],
 ) -> Result<(), WriteFault> {
     put_apart(sheet, send.line)?;
     sheet.put(b" So it must assume that all this may be so at once:\n")?;
@@ -123,21 +123,25 @@ fn has_other_script(nexuses: &[Nexus], host: u8) -> bool {
         && matches!(nexus.task, Task::Scripted { .. }))
 }
 
-fn put_fact<W: Write>(sheet: &mut Sheet<'_, W>, host: u8, fact: Fact) -> Result<(), WriteFault> {
+fn put_fact<W: Write>(
+    sheet: &mut Sheet<'_, W>,
+    host: u8,
+    fact: Circumstance,
+) -> Result<(), WriteFault> {
     sheet.put(b" ")?;
     match fact {
-        Fact::Key { nexus, key: known } => {
+        Circumstance::Key { nexus, key: known } => {
             sheet.say(b" {}", &[Token::Text(sheet.name_of(nexus))])?;
             match known {
                 Some(known) => sheet.say(b" has {}", &[key(known)])?,
                 None => sheet.put(b" is not registered")?,
             }
         }
-        Fact::Reserved(held) => {
+        Circumstance::Reserved(held) => {
             sheet.put(b" ")?;
             put_held(&mut sheet.writer, sheet.nexuses, held)?;
         }
-        Fact::Pending(attentions) => {
+        Circumstance::Pending(attentions) => {
             put_attentions(sheet, attentions)?;
             sheet.say(b" pending for {}", &[Token::Text(sheet.name_of(host))])?;
         }

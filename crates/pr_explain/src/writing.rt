@@ -1,6 +1,7 @@
 //! An explanation in words.
 
 use crate::accepting::{put_accepted, put_lints};
+use crate::asking::put_questions;
 use crate::plan::{AcceptedPlan, Explanation, Inquiry, RefusedPlan};
 use crate::refusing::{put_inquiry, put_refused};
 use crate::sheet::Sheet;
@@ -28,8 +29,8 @@ pub fn write_explanation<W: Write>(
     }
 }
 
-/// Writes the rest of what is said of one that is accepted: which ends come together, if they were looked for, and what is worth a
-/// look.
+/// Writes the rest of what is said of one that is accepted: which ends come together, if they were looked for, what to ask of it,
+/// and what is worth a look.
 pub fn write_prospects<W: Write>(
     writer: &mut W,
     lines: &[&[u8]],
@@ -40,6 +41,7 @@ pub fn write_prospects<W: Write>(
     if let Some(ends) = ends {
         put_together(&mut sheet, ends)?;
     }
+    put_questions(&mut sheet, &accepted.lints, &accepted.takings)?;
     put_lints(&mut sheet, accepted.scenario.parts(), &accepted.lints)
 }
 

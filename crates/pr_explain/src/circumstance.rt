@@ -7,7 +7,7 @@ use pr_views::is_among;
 
 /// Of one thing what may be so when a host sends.
 #[derive(Clone, Copy, Debug, PartialEq, Eq)]
-pub enum Fact {
+pub enum Circumstance {
     /// The nexus has this key, or none.
     Key { nexus: u8, key: Option<u64> },
     /// This is reserved, or nothing.
@@ -16,14 +16,15 @@ pub enum Fact {
     Pending(u8),
 }
 
-impl Fact {
+impl Circumstance {
     /// Whether it is so of the unit when this host sends.
     pub(crate) fn is_so(self, unit: &Unit, host: u8) -> bool {
         let registry = unit.registry();
         match self {
-            Fact::Key { nexus, key } => nexus < registry.hosts() && registry.key(nexus) == key,
-            Fact::Reserved(held) => registry.held() == held,
-            Fact::Pending(attentions) => {
+            Circumstance::Key { nexus, key } => nexus < registry.hosts()
+                && registry.key(nexus) == key,
+            Circumstance::Reserved(held) => registry.held() == held,
+            Circumstance::Pending(attentions) => {
                 host < registry.hosts() && are_pending(unit.pending(host), attentions)
             }
         }
