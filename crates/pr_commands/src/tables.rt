@@ -31,11 +31,11 @@ struct JudgedHost {
     judgement: Result<Verified, Refused>,
 }
 
-/// `fence table`: reads a scenario, verifies it, and writes the table of the script of the host with this name. Of a scenario that is
-/// refused it writes the line of the verdict, and no table.
+/// `fence table`: reads a scenario, verifies it, and writes the table of the script of the host with this name. Of a scenario that
+/// is refused it writes the line of the verdict, and no table.
 ///
-/// A name that is none of the text, or a guest's, is a usage fault once the text is read. Of a text whose bytes the contract knows at
-/// most 65,537 are taken. A fault is told in one line on `errors`, whose own faults change nothing.
+/// A name that is none of the text, or a guest's, is a usage fault once the text is read. Of a text whose bytes the contract knows
+/// at most 65,537 are taken. A fault is told in one line on `errors`, whose own faults change nothing.
 pub fn do_table<R: Read, W: Write, E: Write>(
     alloc: Global,
     name: &str,

@@ -24,8 +24,8 @@ impl Combination {
         others.iter().any(|other| self.bits & !other.bits == 0)
     }
 
-    /// Of the combinations of so many items that are within none of the others, one that has as few of the dear items as can be, and
-    /// of those one with the fewest items.
+    /// Of the combinations of so many items that are within none of the others, one that has as few of the dear items as can be,
+    /// and of those one with the fewest items.
     pub(crate) fn least_beyond(
         others: &[Combination],
         count: usize,

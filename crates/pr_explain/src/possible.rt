@@ -10,8 +10,8 @@ use pr_views::{ATTENTION_SETS, View, count_of_reservations, is_among, reservatio
 use pr_words::{put_held, put_sense};
 use std::io::Write;
 
-/// Writes what is possible when it is sent: the registrations of each nexus, the reservations, and what waits for the host. Each list
-/// stands by itself.
+/// Writes what is possible when it is sent: the registrations of each nexus, the reservations, and what waits for the host. Each
+/// list stands by itself.
 pub(crate) fn put_possible<W: Write>(
     sheet: &mut Sheet<'_, W>,
     send: RefusedSend<'_>,

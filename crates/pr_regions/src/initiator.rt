@@ -9,7 +9,8 @@ use crate::purpose::Standing;
 use pr_cdb::Kind;
 use pr_registry::Held;
 
-/// The initiator of a command: a nexus among so many, how it stands to what the command asks for, and the reservation that it meets.
+/// The initiator of a command: a nexus among so many, how it stands to what the command asks for, and the reservation that it
+/// meets.
 #[derive(Clone, Copy)]
 pub(crate) struct Initiator {
     pub(crate) hosts: u8,

@@ -11,7 +11,8 @@ pub struct Region {
     pub holder: BitSet,
     /// The registrations that each of the others may have.
     pub others: BitSet,
-    /// If it is there, some nexus other than the sender is registered with one of these, so 0, which is no key's number, is not in it.
+    /// If it is there, some nexus other than the sender is registered with one of these, so 0, which is no key's number, is not in
+    /// it.
     pub somebody: Option<BitSet>,
 }
 

@@ -30,8 +30,8 @@ pub record Nexus : Type 0 where
   pub busy : ℕ
   pub full : ℕ
 
--- The version of its text, the declared keys, the reservations that there may be at the start, the generation of the first start, how
--- often the unit may be reset, and the nexuses in the order of their numbers.
+-- The version of its text, the declared keys, the reservations that there may be at the start, the generation of the first start,
+-- how often the unit may be reset, and the nexuses in the order of their numbers.
 pub record Scenario : Type 0 where
   pub version : ℕ
   pub keys : List ℕ

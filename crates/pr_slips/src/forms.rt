@@ -1,4 +1,5 @@
-//! The forms of lines, and what is wanted at a place of one (docs/FORMATS.md, 'The lines of a scenario', 'Statements' and 'COMMAND').
+//! The forms of lines, and what is wanted at a place of one (docs/FORMATS.md, 'The lines of a scenario', 'Statements' and
+//! 'COMMAND').
 
 use pr_lines::{Keyword, Wanted};
 

@@ -7,8 +7,8 @@ use Rattle.pr_script.specs.Scripts.{Standing, ready, stopped}
 use Rattle.pr_script.specs.Takes.{matches}
 use Rattle.pr_table.specs.Rows.{TableRow, send_row, repeat_row, again_row, leave_row, stop_row, row_at}
 
--- Where one stands who follows a table: the number of a row, and of each repeat that is open, the innermost first, how often its body
--- is still to run after this time.
+-- Where one stands who follows a table: the number of a row, and of each repeat that is open, the innermost first, how often its
+-- body is still to run after this time.
 abbrev pub Whereabouts : Type 0
 Whereabouts = ℕ × List ℕ
 
@@ -64,7 +64,8 @@ row_after (Some (stop_row word)) reply = None
 abbrev pub takes_arm : List TableRow → Whereabouts → Reply → Option Whereabouts
 takes_arm rows p reply = option_map (λ row. (row, p.1)) (row_after (row_at rows p.0) reply)
 
--- Where one stands once these replies have come, and none of them trapped him. No more rows than `most` lead on between two commands.
+-- Where one stands once these replies have come, and none of them trapped him. No more rows than `most` lead on between two
+-- commands.
 abbrev pub followed : ℕ → List TableRow → List Reply → Whereabouts → Option Whereabouts
 followed most rows [] p = Some (goes_on_often most rows p)
 followed most rows (reply ∷ replies) p = option_and_then (followed most rows replies) (takes_arm rows (goes_on_often most rows p) reply)

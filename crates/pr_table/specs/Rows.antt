@@ -1,13 +1,14 @@
 -- Agrees with docs/FORMATS.md, 'Table text'.
--- A script as rows, which are numbered from 1: its statements in the order in which they are written, each with the row that follows.
+-- A script as rows, which are numbered from 1: its statements in the order in which they are written, each with the row that
+-- follows.
 use Rattle.std.specs.Prelude.{ℕ, zero, suc, ◌+◌, List, [], ◌∷◌, ◌++◌, Option, None, codes}
 use Rattle.std.specs.List.{slice_get}
 use Rattle.pr_cdb.specs.declared.command.Command.{Command}
 use Rattle.pr_script.specs.declared.script.Test.{Test}
 use Rattle.pr_script.specs.Scripts.{Stmt, Stmts, Arms, sends, repeats, breaks, stops, none, more, no_arm, arm}
 
--- A send with its line, its command, and of each arm what it asks and the row that follows; a repeat with its count and the row past
--- it; the end of a repeat's body, with the repeat's row; a break, with the row past the repeat; a stop with its word.
+-- A send with its line, its command, and of each arm what it asks and the row that follows; a repeat with its count and the row
+-- past it; the end of a repeat's body, with the repeat's row; a break, with the row past the repeat; a stop with its word.
 pub data TableRow : Type 0 where
   send_row : ℕ → Command → List (Test × ℕ) → TableRow
   repeat_row : ℕ → ℕ → TableRow

@@ -20,8 +20,8 @@ use pr_roles::{Scenario, Task, nexus_in};
 use pr_script::{Arm, Script, Statement, Test};
 use std::io::Write;
 
-/// Writes the table of a host's script: the scenario's version, and a row for each statement, with the command's bytes where that is a
-/// send, and the row that follows each of its arms. On a fault, what went out is a front of it, and not all.
+/// Writes the table of a host's script: the scenario's version, and a row for each statement, with the command's bytes where that
+/// is a send, and the row that follows each of its arms. On a fault, what went out is a front of it, and not all.
 pub fn write_table<W: Write>(
     writer: &mut W,
     scenario: &Scenario,

@@ -2,9 +2,9 @@
 -- What is wrong with a line, by what is declared before it.
 --
 -- Which fault a text has is the first one on the way through its lines, so this follows them with what is open: blocks, a count of
--- statements, and whether the innermost has begun. In that it has the shape of the code. It keeps no tree of statements, as the code
--- does. What is independent of it: a scenario that is read is one whose lines are the text's (`Reading`), those lines have no fault
--- (`ScenarioRoundTrip`), no text is written as two scenarios (`Laws`), and tests/vectors has each fault by hand.
+-- statements, and whether the innermost has begun. In that it has the shape of the code. It keeps no tree of statements, as the
+-- code does. What is independent of it: a scenario that is read is one whose lines are the text's (`Reading`), those lines have no
+-- fault (`ScenarioRoundTrip`), no text is written as two scenarios (`Laws`), and tests/vectors has each fault by hand.
 use Rattle.std.specs.Prelude.{ℕ, List, length, Option, if◌then◌else◌, [], Some, None, option_map, Bool, ◌&&◌, is_none, unwrap_or, false, ◌==◌, ◌||◌, not, nat_lt, nat_le, is_some, true, count_by}
 use Rattle.std.specs.List.{list_all}
 use Rattle.pr_cdb.specs.declared.command.Command.{Command}

@@ -1,7 +1,7 @@
 //! Whether an outline carries the script of its host.
 //!
-//! No command of the program calls `check_outline`: it is for outlines that were not inferred here. `verify` infers its own, of which
-//! it is proved that they are sound.
+//! No command of the program calls `check_outline`: it is for outlines that were not inferred here. `verify` infers its own, of
+//! which it is proved that they are sound.
 
 ghost use Rattle.std.specs.Prelude.{◌≡◌, ◌<◌, ◌≤◌, min, map, OnOk, IfErr};
 ghost use Rattle.pr_script.specs.declared.limits.TheConstants.{MOST_BUDGET};

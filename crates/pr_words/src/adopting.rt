@@ -128,7 +128,8 @@ fn adopt_report(alloc: Global, unit: &mut Unit, host: u8, reply: &Reply) -> Resu
     Ok(())
 }
 
-// Executes the command. Where the model refuses it, and would not if the sender had the key that the command names, it has that key.
+// Executes the command. Where the model refuses it, and would not if the sender had the key that the command names, it has that
+// key.
 fn perform(alloc: Global, unit: &mut Unit, host: u8, wire: &Wire) -> Result<(), AllocError>
     requires { host < unit.old.registry.hosts }
     ensures { unit.new.registry.hosts ≡ unit.old.registry.hosts }

@@ -23,7 +23,8 @@ pub fn safe_replays_keep_roles()
     ensures { SafeReplaysKeepRoles }
 {}
 
-/// Where turns and resets led in a safe scenario, no host has sent more commands than its budget, and no guest more than its plan has.
+/// Where turns and resets led in a safe scenario, no host has sent more commands than its budget, and no guest more than its plan
+/// has.
 pub fn safe_schedules_keep_to_rooms()
     ensures { SafeSchedulesKeepToRooms }
 {}

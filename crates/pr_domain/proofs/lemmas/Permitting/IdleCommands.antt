@@ -1,4 +1,5 @@
--- Where a command ends GOOD that does more than look: nothing is pending for its sender then, and it neither conflicts nor is at fault.
+-- Where a command ends GOOD that does more than look: nothing is pending for its sender then, and it neither conflicts nor is at
+-- fault.
 use Rattle.pr_domain.proofs.Common.{◌≡◌, ℕ, Bool, true, false, sym, refl, ◌∙◌, arith, false≢true, nat_tests, Command, Reply, Plain, power_on, command_conflicts, Step, UnitState, is_pending, is_any_pending, IsWellFormed, Scope, Attentions, IsSo}
 use Rattle.std.proofs.lemmas.Bool.{false_from_ne_true}
 use Rattle.pr_cdb.specs.declared.command.Command.TheVariants as command

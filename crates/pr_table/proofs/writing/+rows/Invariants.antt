@@ -1,5 +1,5 @@
--- The lines of the rows from this statement on are left, or of those of the bodies from this arm on. Each call has fewer rows to write,
--- or as many and less around them.
+-- The lines of the rows from this statement on are left, or of those of the bodies from this arm on. Each call has fewer rows to
+-- write, or as many and less around them.
 use Rattle.pr_table.proofs.Common.{◌≡◌, ◌≤◌, ◌+◌, drop, script_of, statement_of, statements_in, arms_in, Wrote, row_count, row_count_of_all, row_count_of_arms, rows_of_all, rows_of_arms, rows_text}
 use Rattle.std.proofs.Common.{◌*◌}
 use Rattle.pr_table.proofs.writing.+rows.Given as goal
