@@ -1,5 +1,6 @@
 //! What the words of a command line ask for.
 
+use crate::subcommands::Subcommand;
 use clap::ArgMatches;
 
 /// A subcommand with the paths and words behind it. The path of a scenario is `-` where that is standard input.
@@ -68,44 +69,44 @@ pub enum Call<'a> {
     },
 }
 
-/// What is asked for by words that `matches_of` took, or nothing where they name no subcommand or lack an argument, which it refuses.
+/// What is asked for by words that `matches_of` took, or nothing where they name no subcommand or lack an argument, which it
+/// refuses.
 pub fn call_of<'a>(matches: &'a ArgMatches<'_>) -> Option<Call<'a>> {
     let (name, arguments) = matches.subcommand()?;
-    let call = match name {
-        "check" => Call::Check {
+    let call = match Subcommand::of_name(name)? {
+        Subcommand::Check => Call::Check {
             paths: arguments.get_strs("FILE")?,
         },
-        "outline" => Call::Outline {
+        Subcommand::Outline => Call::Outline {
             path: arguments.get_str("FILE")?,
         },
-        "table" => Call::Table {
+        Subcommand::Table => Call::Table {
             path: arguments.get_str("FILE")?,
             host: arguments.get_str("HOST")?,
         },
-        "witness" => Call::Witness {
+        Subcommand::Witness => Call::Witness {
             path: arguments.get_str("FILE")?,
         },
-        "ends" => Call::Ends {
+        Subcommand::Ends => Call::Ends {
             path: arguments.get_str("FILE")?,
             asked: arguments.get_strs("END").unwrap_or(&[]),
         },
-        "never" => Call::Never {
+        Subcommand::Never => Call::Never {
             path: arguments.get_str("FILE")?,
             asked: arguments.get_strs("FACT").unwrap_or(&[]),
         },
-        "replay" => replay_of(arguments)?,
-        "run" => Call::Run {
+        Subcommand::Replay => replay_of(arguments)?,
+        Subcommand::Run => Call::Run {
             path: arguments.get_str("FILE")?,
         },
-        "audit" => Call::Audit {
+        Subcommand::Audit => Call::Audit {
             path: arguments.get_str("FILE")?,
             trace: arguments.get_str("TRACE")?,
         },
-        "explain" => Call::Explain {
+        Subcommand::Explain => Call::Explain {
             path: arguments.get_str("FILE")?,
             trace: arguments.get_str("TRACE"),
         },
-        _ => return None,
     };
     Some(call)
 }

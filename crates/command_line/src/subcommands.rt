@@ -39,10 +39,72 @@ pub fn matches_of<'a>(alloc: Global, words: &'a [String]) -> Result<ArgMatches<'
     command(alloc, words)?.try_get_matches_from(words)
 }
 
-// The subcommands, in the order in which the help lists them.
-const NAMES: [&str; 10] = [
-    "check", "outline", "table", "witness", "ends", "never", "replay", "run", "audit", "explain",
-];
+/// A subcommand of the program.
+#[derive(Clone, Copy, PartialEq, Eq)]
+pub(crate) enum Subcommand {
+    Check,
+    Outline,
+    Table,
+    Witness,
+    Ends,
+    Never,
+    Replay,
+    Run,
+    Audit,
+    Explain,
+}
+
+impl Subcommand {
+    /// All of them, in the order in which the help lists them.
+    const ALL: [Subcommand; 10] = [
+        Subcommand::Check,
+        Subcommand::Outline,
+        Subcommand::Table,
+        Subcommand::Witness,
+        Subcommand::Ends,
+        Subcommand::Never,
+        Subcommand::Replay,
+        Subcommand::Run,
+        Subcommand::Audit,
+        Subcommand::Explain,
+    ];
+
+    /// The subcommand of this name, if there is one.
+    pub(crate) fn of_name(name: &str) -> Option<Subcommand> {
+        Subcommand::ALL.into_iter().find(|it| it.name() == name)
+    }
+
+    fn name(self) -> &'static str {
+        match self {
+            Subcommand::Check => "check",
+            Subcommand::Outline => "outline",
+            Subcommand::Table => "table",
+            Subcommand::Witness => "witness",
+            Subcommand::Ends => "ends",
+            Subcommand::Never => "never",
+            Subcommand::Replay => "replay",
+            Subcommand::Run => "run",
+            Subcommand::Audit => "audit",
+            Subcommand::Explain => "explain",
+        }
+    }
+
+    // It as it is parsed, with its arguments and its help.
+    fn command<'a>(self, alloc: Global) -> Result<Command<'a>, AllocError> {
+        match self {
+            Subcommand::Check => check(alloc),
+            Subcommand::Outline => outline(alloc),
+            Subcommand::Table => table(alloc),
+            Subcommand::Witness => witness(alloc),
+            Subcommand::Ends => ends(alloc),
+            Subcommand::Never => never(alloc),
+            Subcommand::Replay => replay(alloc),
+            Subcommand::Run => run(alloc),
+            Subcommand::Audit => audit(alloc),
+            Subcommand::Explain => explain(alloc),
+        }
+    }
+}
 
 fn command<'a>(alloc: Global, words: &[String]) -> Result<Command<'a>, AllocError> {
     let mut command = Command::new(alloc, "fence")
@@ -54,33 +116,17 @@ fn command<'a>(alloc: Global, words: &[String]) -> Result<Command<'a>, AllocErro
         .subcommand_required(true)
         .arg_required_else_help(true);
     let named = named(words);
-    for name in NAMES {
-        if named.is_none_or(|named| named == name) {
-            command = command.subcommand(subcommand(alloc, name)?)?;
+    for it in Subcommand::ALL {
+        if named.is_none_or(|named| named == it) {
+            command = command.subcommand(it.command(alloc)?)?;
         }
     }
     Ok(command)
 }
 
 // The subcommand that the words name. No other is built then, since building all takes as long as checking a small scenario.
-fn named(words: &[String]) -> Option<&'static str> {
-    let first = words.get(1)?;
-    NAMES.into_iter().find(|name| first.as_str() == *name)
-}
-
-fn subcommand<'a>(alloc: Global, name: &str) -> Result<Command<'a>, AllocError> {
-    match name {
-        "check" => check(alloc),
-        "outline" => outline(alloc),
-        "table" => table(alloc),
-        "witness" => witness(alloc),
-        "ends" => ends(alloc),
-        "never" => never(alloc),
-        "replay" => replay(alloc),
-        "run" => run(alloc),
-        "audit" => audit(alloc),
-        _ => explain(alloc),
-    }
+fn named(words: &[String]) -> Option<Subcommand> {
+    Subcommand::of_name(words.get(1)?.as_str())
 }
 
 fn check<'a>(alloc: Global) -> Result<Command<'a>, AllocError> {

@@ -140,11 +140,9 @@ fn table(rt: &HostRuntime, path: &str, host: &str) -> Result<ExitStatus, Fault> 
 }
 
 fn witness<T: Threads>(rt: &HostRuntime, threads: &T, path: &str) -> Result<ExitStatus, Fault> {
-    let mut text = opened(open(rt, path))?;
-    let notice = Notice::begin(rt, threads, &text);
-    let status = do_witness(rt.alloc(), &mut text, &mut rt.stdout(), &mut rt.stderr());
-    notice.end();
-    Ok(status)
+    searched(rt, threads, path, |text| {
+        do_witness(rt.alloc(), text, &mut rt.stdout(), &mut rt.stderr())
+    })
 }
 
 fn ends<T: Threads>(
@@ -153,17 +151,9 @@ fn ends<T: Threads>(
     path: &str,
     asked: &[&str],
 ) -> Result<ExitStatus, Fault> {
-    let mut text = opened(open(rt, path))?;
-    let notice = Notice::begin(rt, threads, &text);
-    let status = do_ends(
-        rt.alloc(),
-        asked,
-        &mut text,
-        &mut rt.stdout(),
-        &mut rt.stderr(),
-    );
-    notice.end();
-    Ok(status)
+    searched(rt, threads, path, |text| {
+        do_ends(rt.alloc(), asked, text, &mut rt.stdout(), &mut rt.stderr())
+    })
 }
 
 fn never<T: Threads>(
@@ -172,17 +162,37 @@ fn never<T: Threads>(
     path: &str,
     asked: &[&str],
 ) -> Result<ExitStatus, Fault> {
+    searched(rt, threads, path, |text| {
+        do_never(rt.alloc(), asked, text, &mut rt.stdout(), &mut rt.stderr())
+    })
+}
+
+// A command that searches the text at this path.
+fn searched<T: Threads, F: FnOnce(&mut Source) -> ExitStatus>(
+    rt: &HostRuntime,
+    threads: &T,
+    path: &str,
+    command: F,
+) -> Result<ExitStatus, Fault>
+    requires { F.IsAlwaysCallable command }
+{
     let mut text = opened(open(rt, path))?;
-    let notice = Notice::begin(rt, threads, &text);
-    let status = do_never(
-        rt.alloc(),
-        asked,
-        &mut text,
-        &mut rt.stdout(),
-        &mut rt.stderr(),
-    );
+    Ok(noticed(rt, threads, &mut text, command))
+}
+
+// A command that may search for long, which is said where it does.
+fn noticed<T: Threads, F: FnOnce(&mut Source) -> ExitStatus>(
+    rt: &HostRuntime,
+    threads: &T,
+    text: &mut Source,
+    command: F,
+) -> ExitStatus
+    requires { F.IsAlwaysCallable command }
+{
+    let notice = Notice::begin(rt, threads, text);
+    let status = command(text);
     notice.end();
-    Ok(status)
+    status
 }
 
 fn replay(rt: &HostRuntime, path: &str, steps: &[&str]) -> Result<ExitStatus, Fault> {
@@ -250,15 +260,10 @@ fn explain<T: Threads>(
     let mut text = opened_or_told(rt, path, open(rt, path))?;
     match trace {
         Some(trace) => explain_trace(rt, &mut text, trace),
-        None => Ok(explain_verdict(rt, threads, &mut text)),
+        None => Ok(noticed(rt, threads, &mut text, |text| {
+            do_explain(rt.alloc(), text, &mut rt.stdout(), &mut rt.stderr())
+        })),
     }
-}
-
-fn explain_verdict<T: Threads>(rt: &HostRuntime, threads: &T, text: &mut Source) -> ExitStatus {
-    let notice = Notice::begin(rt, threads, text);
-    let status = do_explain(rt.alloc(), text, &mut rt.stdout(), &mut rt.stderr());
-    notice.end();
-    status
 }
 
 // `-` is standard input for one of the two, and the name of a file where that is taken. Both are opened before either is read.
