@@ -4,6 +4,7 @@ ghost use Rattle.std.specs.Prelude.{◌≡◌, ◌+◌, ◌∷◌, [], IfOk, IsT
 ghost use Rattle.pr_text.specs.declared.text.TheConstants.{MOST_BYTES};
 ghost use Rattle.pr_text.specs.BytesRead.{LosesUpTo};
 ghost use Rattle.pr_roles.specs.Scenarios.{scenario_of};
+ghost use Rattle.pr_explore.specs.AllSeen.{HasSeenAll};
 ghost use Rattle.pr_output.specs.Written.{Writes};
 ghost use Rattle.pr_trace.specs.TraceText.{names_under};
 ghost use Rattle.pr_commands.specs.Endings.{IsCommandOver, EndsOver};
@@ -137,6 +138,7 @@ fn unmet_of<'a>(
     words: &[&'a str],
     explorer: &Explorer<'_>,
 ) -> Result<Vec<&'a str>, AllocError>
+    requires { HasSeenAll (scenario_of scenario.now) explorer.now }
     ensures { IfOk result (λ unmet. AreUnmet (scenario_of scenario.now) (texts_of words.now)
         (texts_of unmet.items)) }
 {
@@ -156,6 +158,7 @@ fn is_never(
     word: &&str,
     explorer: &Explorer<'_>,
 ) -> Result<bool, AllocError>
+    requires { HasSeenAll (scenario_of scenario.now) explorer.now }
     ensures { IfOk result (λ never. IsTrue never
         → IsNeverAsked (scenario_of scenario.now) (word.now.now ∷ [])) }
 {
@@ -164,16 +167,7 @@ fn is_never(
     };
     let mut fitting = Vec::new(alloc);
     explorer.fit(&question.facts, &mut fitting)?;
-    // (most words are met soon, and whether all worlds were seen takes longer to test)
-    if is_met(explorer, &question, &fitting) {
-        return Ok(false);
-    }
-    Ok(explorer.never_is(scenario, &question.asked, &question.facts, &fitting))
-}
-
-// Whether one of the worlds that were seen may be such a moment.
-fn is_met(explorer: &Explorer<'_>, question: &SoughtMoment, fitting: &[bool]) -> bool {
-    (0..explorer.worlds()).any(|world| explorer.may_be(world, &question.asked, fitting))
+    Ok(explorer.sees_none(&question.asked, &question.facts, &fitting))
 }
 
 // Whether a run comes to such a moment, or nothing is proved.

@@ -4,7 +4,9 @@ use Rattle.std.specs.Prelude.{List, Option}
 use Rattle.pr_roles.specs.Scenarios.{Scenario}
 use Rattle.pr_audit.specs.declared.end.End.{End}
 use Rattle.pr_explore.specs.declared.moments.Fact.{Fact}
+use Rattle.pr_explore.specs.AllSeen.{HasSeenAll}
 use Rattle.pr_explore.specs.Moments.{IsMoment, NeverIs}
+use Rattle.pr_explore.specs.declared.explorer.Explorer.{Explorer}
 use Rattle.pr_witness.specs.declared.breach.CertifiedRun.{CertifiedRun}
 use Rattle.pr_witness.specs.declared.ending.Sought.{Sought}
 use Rattle.pr_witness.specs.declared.ending.Sought.TheVariants.{Found, Never, Nothing}
@@ -20,3 +22,9 @@ abbrev pub IsMomentSought : Scenario → List (Option End) → List Fact → Sou
 IsMomentSought s asked facts (Found run steps) = IsMomentRun s asked facts run
 IsMomentSought s asked facts (Never worlds) = NeverIs s asked facts
 IsMomentSought s asked facts (Nothing worlds bound) = Unit {0}
+
+-- where there is no such moment, the search has seen all that can come up
+abbrev pub SeesAllWhereNever : Scenario → Explorer → Sought → Type 0
+SeesAllWhereNever s x (Found run steps) = Unit {0}
+SeesAllWhereNever s x (Never worlds) = HasSeenAll s x
+SeesAllWhereNever s x (Nothing worlds bound) = Unit {0}
