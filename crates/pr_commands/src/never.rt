@@ -4,7 +4,6 @@ ghost use Rattle.std.specs.Prelude.{◌≡◌, ◌+◌, ◌∷◌, [], IfOk, IsT
 ghost use Rattle.pr_text.specs.declared.text.TheConstants.{MOST_BYTES};
 ghost use Rattle.pr_text.specs.BytesRead.{LosesUpTo};
 ghost use Rattle.pr_roles.specs.Scenarios.{scenario_of};
-ghost use Rattle.pr_explore.specs.AllSeen.{HasSeenAll};
 ghost use Rattle.pr_output.specs.Written.{Writes};
 ghost use Rattle.pr_trace.specs.TraceText.{names_under};
 ghost use Rattle.pr_commands.specs.Endings.{IsCommandOver, EndsOver};
@@ -17,7 +16,7 @@ use crate::ending::ended;
 use crate::fault::{ExitStatus, Fault};
 use crate::never_text::write_never;
 use crate::questions::{SoughtMoment, question_of};
-use pr_explore::Explorer;
+use pr_explore::AllSeen;
 use pr_roles::Scenario;
 use pr_text::read;
 use pr_witness::{Sought, USUAL_BOUNDS, run_to_moment};
@@ -109,24 +108,11 @@ fn search<'a>(
     ensures { IfOk result (IsSearched (scenario_of scenario.now) (texts_of words.now)
         question.now.asked.items question.now.facts.items) }
 {
-    let mut explorer = Explorer::new(alloc, scenario, USUAL_BOUNDS)?;
-    search_by(alloc, scenario, words, question, &mut explorer)
-}
-
-fn search_by<'a>(
-    alloc: Global,
-    scenario: &Scenario,
-    words: &[&'a str],
-    question: &SoughtMoment,
-    explorer: &mut Explorer<'_>,
-) -> Result<(Sought, Vec<&'a str>), AllocError>
-    ensures { IfOk result (IsSearched (scenario_of scenario.now) (texts_of words.now)
-        question.now.asked.items question.now.facts.items) }
-{
-    let sought = run_to_moment(alloc, scenario, &question.asked, &question.facts, explorer)?;
-    let unmet = match &sought {
-        Sought::Never { .. } => unmet_of(alloc, scenario, words, explorer)?,
-        Sought::Found { .. } | Sought::Nothing { .. } => Vec::new(alloc),
+    let (asked, facts) = (&question.asked, &question.facts);
+    let (sought, seen) = run_to_moment(alloc, scenario, asked, facts, USUAL_BOUNDS)?;
+    let unmet = match &seen {
+        Some(all) => unmet_of(alloc, scenario, words, all)?,
+        None => Vec::new(alloc),
     };
     Ok((sought, unmet))
 }
@@ -136,15 +122,15 @@ fn unmet_of<'a>(
     alloc: Global,
     scenario: &Scenario,
     words: &[&'a str],
-    explorer: &Explorer<'_>,
+    all: &AllSeen<'_>,
 ) -> Result<Vec<&'a str>, AllocError>
-    requires { HasSeenAll (scenario_of scenario.now) explorer.now }
+    requires { scenario_of all.now ≡ scenario_of scenario.now }
     ensures { IfOk result (λ unmet. AreUnmet (scenario_of scenario.now) (texts_of words.now)
         (texts_of unmet.items)) }
 {
     let mut unmet = Vec::new(alloc);
     for word in words {
-        if is_never(alloc, scenario, word, explorer)? {
+        if is_never(alloc, scenario, word, all)? {
             unmet.push(*word)?;
         }
     }
@@ -156,9 +142,9 @@ fn is_never(
     alloc: Global,
     scenario: &Scenario,
     word: &&str,
-    explorer: &Explorer<'_>,
+    all: &AllSeen<'_>,
 ) -> Result<bool, AllocError>
-    requires { HasSeenAll (scenario_of scenario.now) explorer.now }
+    requires { scenario_of all.now ≡ scenario_of scenario.now }
     ensures { IfOk result (λ never. IsTrue never
         → IsNeverAsked (scenario_of scenario.now) (word.now.now ∷ [])) }
 {
@@ -166,8 +152,8 @@ fn is_never(
         return Ok(false);
     };
     let mut fitting = Vec::new(alloc);
-    explorer.fit(&question.facts, &mut fitting)?;
-    Ok(explorer.sees_none(&question.asked, &question.facts, &fitting))
+    all.fit(&question.facts, &mut fitting)?;
+    Ok(all.never_is(&question.asked, &question.facts, &fitting))
 }
 
 // Whether a run comes to such a moment, or nothing is proved.
