@@ -1,6 +1,6 @@
 -- Agrees with docs/FORMATS.md, 'Moments'.
 -- The question of `fence never`: the ends and the facts for which its words ask.
-use Rattle.std.specs.Prelude.{ℕ, ◌==◌, ◌||◌, Bool, not, nat_lt, if◌then◌else◌, List, length, filter, Option, Some, None, is_some, option_map, option_and_then}
+use Rattle.std.specs.Prelude.{ℕ, ◌==◌, ◌||◌, Bool, not, nat_lt, if◌then◌else◌, List, length, filter, Option, None, is_some, option_map, option_and_then}
 use Rattle.std.specs.List.{position}
 use Rattle.pr_roles.specs.Fitting.{are_distinct}
 use Rattle.pr_roles.specs.Scenarios.{Scenario}

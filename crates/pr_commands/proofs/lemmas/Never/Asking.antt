@@ -1,11 +1,11 @@
 -- What a question comes to, step by step.
-use Rattle.pr_commands.proofs.Common.{◌≡◌, ℕ, Bool, true, false, List, Option, Some, None, option_map, option_and_then, ap, ◌∙◌, Scenario, names_in}
+use Rattle.pr_commands.proofs.Common.{◌≡◌, ℕ, Bool, false, List, Option, Some, None, option_map, option_and_then, ap, ◌∙◌, Scenario, names_in}
 use Rattle.std.specs.Prelude.{filter, not, if◌then◌else◌}
 use Rattle.pr_roles.specs.Fitting.{are_distinct}
 use Rattle.pr_explore.specs.declared.moments.Fact.{Fact}
 use Rattle.pr_commands.specs.Asked.{asks_of}
 use Rattle.pr_commands.specs.Facts.{are_of_the_same, facts_of}
-use Rattle.pr_commands.specs.Questions.{Question, has_equals, has_wrong_count, question_of, question_with}
+use Rattle.pr_commands.specs.Questions.{has_equals, has_wrong_count, question_of, question_with}
 
 module _ (s : Scenario) (words : List (List ℕ)) (few : has_wrong_count words ≡ false) where
   abbrev facts_asked : Option (List Fact)

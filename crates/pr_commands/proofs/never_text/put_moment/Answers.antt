@@ -1,4 +1,4 @@
-use Rattle.pr_commands.proofs.Common.{ℕ, List, [], ◌∷◌, ◌++◌, codes, flat_map, front_first, front_then, map, puts_err, puts_last}
+use Rattle.pr_commands.proofs.Common.{[], ◌∷◌, ◌++◌, codes, flat_map, front_first, front_then, map, puts_err, puts_last}
 use Rattle.std.specs.Fmt.{decimal}
 use Rattle.pr_output.specs.PrintedLines.{line}
 use Rattle.pr_commands.proofs.never_text.put_moment.Goals as goal

@@ -1,6 +1,6 @@
 -- One line more, and then all.
-use Rattle.pr_commands.proofs.Common.{◌≡◌, ℕ, List, ap, sym, ◌∙◌, subst, Appends, FallsShort, flat_map, map, puts_err, wrote_all, wrote_front, wrote_more, drop, length}
-use Rattle.std.proofs.Common.{get_or, drop_of_length-le}
+use Rattle.pr_commands.proofs.Common.{ℕ, List, ap, subst, Appends, FallsShort, flat_map, map, puts_err, wrote_all, wrote_front, wrote_more, drop}
+use Rattle.std.proofs.Common.{drop_of_length-le}
 use Rattle.pr_commands.specs.NeverText.{unmet_line}
 use Rattle.pr_commands.proofs.lemmas.Never.Words.{texts_from}
 use Rattle.pr_commands.proofs.never_text.put_unmet.Goals as goal

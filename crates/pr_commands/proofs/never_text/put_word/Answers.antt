@@ -1,4 +1,4 @@
-use Rattle.pr_commands.proofs.Common.{codes, front_first, puts_err, puts_last}
+use Rattle.pr_commands.proofs.Common.{front_first, puts_err, puts_last}
 use Rattle.pr_commands.proofs.never_text.put_word.Goals as goal
 
 pub returns-in_err-put : goal.returns-in_err-put

@@ -1,6 +1,6 @@
 -- One word more, and then all.
-use Rattle.pr_commands.proofs.Common.{◌≡◌, ℕ, List, ap, sym, ◌∙◌, subst, Appends, FallsShort, flat_map, map, puts_err, wrote_all, wrote_front, wrote_more, drop, length, ◌++◌, codes}
-use Rattle.std.proofs.Common.{get_or, drop_of_length-le}
+use Rattle.pr_commands.proofs.Common.{ℕ, List, ap, subst, Appends, FallsShort, flat_map, map, puts_err, wrote_all, wrote_front, wrote_more, drop, ◌++◌, codes}
+use Rattle.std.proofs.Common.{drop_of_length-le}
 use Rattle.pr_commands.proofs.lemmas.Never.Words.{texts_from}
 use Rattle.pr_commands.proofs.never_text.put_words.Goals as goal
 

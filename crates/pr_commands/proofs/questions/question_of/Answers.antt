@@ -1,11 +1,10 @@
 -- The facts first, and then the ends.
-use Rattle.pr_commands.proofs.Common.{◌≡◌, ℕ, true, false, List, Some, None, option_map, ap, sym, ◌∙◌, arith, length, map, Parts, scenario_of, names_in, names_of, names_of_scenario}
-use Rattle.std.specs.Prelude.{filter, not}
-use Rattle.std.specs.Borrow.{Bor}
+use Rattle.pr_commands.proofs.Common.{◌≡◌, true, false, Some, option_map, ap, sym, ◌∙◌, arith, length, Parts, scenario_of, names_in, names_of, names_of_scenario}
+use Rattle.std.specs.Prelude.{not}
 use Rattle.pr_roles.specs.Fitting.{are_distinct}
 use Rattle.pr_commands.specs.Asked.{asks_of}
 use Rattle.pr_commands.specs.Facts.{are_of_the_same, facts_of}
-use Rattle.pr_commands.specs.Questions.{has_equals, has_wrong_count}
+use Rattle.pr_commands.specs.Questions.{has_wrong_count}
 use Rattle.pr_commands.specs.Steps.{texts_of}
 use Rattle.pr_commands.proofs.lemmas.Never.Asking.{no_fact, with_facts}
 use Rattle.pr_commands.proofs.lemmas.Steps.Words.{few_nexuses}

@@ -1,6 +1,5 @@
 -- What a statement says by its kind, and one statement or arm more.
 use Rattle.std.proofs.Common.{Some, List, ◌||◌, sym, ap, ◌∙◌}
-use Rattle.pr_script.specs.Scripts.{Arms}
 use Rattle.pr_script.specs.Trees.{statement_of}
 use Rattle.pr_script.specs.inside.ArmLists.{arms_in}
 use Rattle.pr_script.specs.declared.script.Arm.{Arm}
