@@ -2,7 +2,7 @@
 
 use crate::moment::{FactShown, Grounds, Since, shown_by};
 use crate::sheet::{Sheet, command_number, key};
-use crate::together::UNSEEN;
+use crate::together::put_premises;
 use pr_cdb::Kind;
 use pr_explore::{Fact, Sight};
 use pr_output::{Token, WriteFault};
@@ -10,10 +10,6 @@ use pr_registry::{Held, kind_of};
 use pr_roles::{Item, Scenario};
 use pr_unit::Unit;
 use std::io::Write;
-
-/// What an answer rests on besides, that speaks of what the reservation refuses.
-const CONFLICTS_FIRST: &[u8] =
-    b"And it holds where the disk answers a conflict before an attention (docs/TARGETS.md): LIO does not.\n";
 
 /// Writes of each of these facts why it is so at the end of the run that goes on like this from this start, or why it isn't; and on
 /// what that rests.
@@ -33,8 +29,7 @@ pub fn write_moment<W: Write>(
             sheet.put(b".\n")?;
         }
     }
-    sheet.put(UNSEEN)?;
-    sheet.put(CONFLICTS_FIRST)
+    put_premises(&mut sheet)
 }
 
 // What is so, where that isn't said by its reason.

@@ -7,6 +7,7 @@ use crate::refused_send::{RefusedSend, table_of};
 use crate::senders::{SentBy, SentItem, sent_by};
 use crate::sheet::{Sheet, command_number};
 use crate::source::{line_of, line_with};
+use crate::together::CONFLICTS_FIRST;
 use crate::unseen::put_unseen;
 use pr_audit::End;
 use pr_output::{Token, WriteFault};
@@ -72,6 +73,7 @@ fn put_safe<W: Write>(sheet: &mut Sheet<'_, W>, worlds: usize) -> Result<(), Wri
     sheet.put(
         b"It rests on what `accepted` rests on, and so on this: nothing but a script looks at the disk by its path. On Linux multipathd and the kernel do, and take unit attentions away (docs/VERDICTS.md).\n",
     )?;
+    sheet.put(CONFLICTS_FIRST)?;
     sheet.put(
         b"In CI call `fence witness FILE` in place of `fence check FILE`: its status is 0 where the scenario is accepted, and where it is safe.\n",
     )

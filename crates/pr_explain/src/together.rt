@@ -7,8 +7,12 @@ use pr_witness::{Ends, Together};
 use std::io::Write;
 
 /// What the answers of a search rest on.
-pub(crate) const UNSEEN: &[u8] =
+const UNSEEN: &[u8] =
     b"That holds where nothing but a script looks at the disk by its path (docs/VERDICTS.md): multipathd and the kernel do.\n";
+
+/// What they rest on besides.
+pub(crate) const CONFLICTS_FIRST: &[u8] =
+    b"And it holds where the disk answers a conflict before an attention (docs/TARGETS.md): LIO does not.\n";
 
 /// More of them nobody reads.
 const MOST_TOLD: usize = 16;
@@ -40,7 +44,13 @@ More states can come up than were looked at here, so it is not told which words 
     for together in &ends.together {
         put_words(sheet, together)?;
     }
-    sheet.put(UNSEEN)
+    put_premises(sheet)
+}
+
+/// Writes what the answers of a search rest on, each of which can be broken by a real system.
+pub(crate) fn put_premises<W: Write>(sheet: &mut Sheet<'_, W>) -> Result<(), WriteFault> {
+    sheet.put(UNSEEN)?;
+    sheet.put(CONFLICTS_FIRST)
 }
 
 // The hosts and their words. (A script of a scenario that is accepted is never trapped.)
