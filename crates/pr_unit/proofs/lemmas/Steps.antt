@@ -1,3 +1,4 @@
+pub mod EasedSteps
 pub mod Existence
 pub mod QuietSteps
 pub mod Statuses

@@ -1,3 +1,4 @@
 pub mod AlikeStates
 pub mod Effects
 pub mod Releases
+pub mod ToldOnce

@@ -1,6 +1,6 @@
 -- What does not end GOOD, and what only looks, changes at most what is pending for the sender.
-use Rattle.pr_unit.proofs.Common.{◌≡◌, ℕ, false, not, ◌&&◌, IsTrue, ◌==◌, sym, refl, ap, ◌∙◌, subst, false≢true, and_parts, Command, Request, Plain, Faulty, power_on, Pairs, decision, StepBy, UnitState, effect, after_report, Decision, PowerOn, Attention, Done, ◌⊎◌, inl, inr, no_change, pending_after}
-use Rattle.std.proofs.Common.{ne_eqb}
+use Rattle.pr_unit.proofs.Common.{◌≡◌, ℕ, false, not, ◌&&◌, IsTrue, ◌==◌, sym, refl, ap, ◌∙◌, subst, false≢true, and_parts, Command, Request, Plain, Faulty, power_on, Pairs, decision, StepBy, UnitState, is_pending, effect, after_report, Decision, PowerOn, Attention, Done, ◌⊎◌, inl, inr, no_change, pending_after}
+use Rattle.std.proofs.Common.{ne_eqb, eq-eqb}
 use Rattle.std.specs.FinSet as set
 use Rattle.pr_cdb.specs.declared.command.Command.TheVariants.{TestUnitReady, RequestSense, Read, Write, ReadKeys, ReadReservation, ReportCapabilities}
 use Rattle.pr_unit.specs.Replies.{is_good}
@@ -9,17 +9,20 @@ use Rattle.pr_unit.proofs.lemmas.Attentions.Pairs.{contains-remove-pair}
 use Rattle.pr_unit.proofs.lemmas.Attentions.ToldAttentions.{told-no_change}
 
 -- the same state is quiet
-same-quiet : (u : UnitState) (h : ℕ) → IsQuiet u h u
+pub same-quiet : (u : UnitState) (h : ℕ) → IsQuiet u h u
 same-quiet u h = record { registry = refl; others = λ other code differs. refl; own = λ code is. is }
 
 -- one attention less
-reported-quiet : (u : UnitState) (h code : ℕ) → IsQuiet u h (after_report u h code)
+pub reported-quiet : (u : UnitState) (h code : ℕ) → IsQuiet u h (after_report u h code)
 reported-quiet u h code = record {
   registry = refl;
   others = λ other x differs. contains-remove-pair u.pending (h, code) (other, x)
       ∙ ap (λ b. not (b && x == code) && set.contains u.pending (other, x)) (ne_eqb other h differs);
   own = λ x is. (and_parts (not (h == h && x == code)) (set.contains u.pending (h, x)) (sym (contains-remove-pair u.pending (h, code) (h, x)) ∙ is)).1;
 }
+
+pub reported-gone : (u : UnitState) (h code : ℕ) → is_pending (after_report u h code) h code ≡ false
+reported-gone u h code = contains-remove-pair u.pending (h, code) (h, code) ∙ (λ i. not (eq-eqb h h refl i && eq-eqb code code refl i) && set.contains u.pending (h, code))
 
 -- nobody is told of anything
 unchanged : (u : UnitState) → record u { pending = pending_after u.pending no_change } ≡ u
