@@ -20,7 +20,7 @@ pub use Rattle.pr_roles.specs.DeclaredRefusals.{how_of}
 pub use Rattle.pr_roles.specs.LegalHistories.{IsLegal}
 pub use Rattle.pr_roles.specs.Scenarios.{Task, Scripted, Planned, Nexus, role, Scenario, nexus, nexus_of}
 unfoldable pub use Rattle.pr_roles.specs.Scenarios.{scenario_of}
-pub use Rattle.pr_roles.specs.Worlds.{Control, Going, Trapped, Free, standing_of, control_after, World, control, entry_of, Event, Host, Guest, UnitReset, is_guest_task, Happens, control_of, world_from, commands_by}
+pub use Rattle.pr_roles.specs.Worlds.{Control, Going, Trapped, Free, standing_of, control_after, World, control, entry_of, Event, Host, Guest, UnitReset, Fetched, is_guest_task, Happens, control_of, world_from, commands_by}
 pub use Rattle.pr_roles.specs.declared.entry.Entry.{Entry}
 pub use Rattle.pr_roles.specs.declared.how.How.{How}
 pub use Rattle.pr_roles.specs.declared.item.Item.{Item}

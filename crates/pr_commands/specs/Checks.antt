@@ -1,7 +1,7 @@
 -- Agrees with docs/FORMATS.md, 'Checking'.
 -- What `fence check` writes.
 use Rattle.std.specs.Prelude.{ℕ, Bool, List, Option, Result}
-use Rattle.pr_roles.specs.Scenarios.{Scenario}
+use Rattle.pr_roles.specs.Scenarios.{Scenario, on_shared_paths}
 use Rattle.pr_roles.specs.Safety.{IsSafe}
 use Rattle.pr_verify.specs.Outlines.{HaveOutlines}
 use Rattle.pr_verify.specs.Verdicts.{IsFirstReason}
@@ -12,10 +12,11 @@ use Rattle.pr_report.specs.declared.verdict.Verdict.TheVariants.{Accepted, Refus
 use Rattle.pr_commands.specs.declared.fault.Fault.{Fault}
 use Rattle.pr_commands.specs.Endings.{IsAnswerOf, Outputs}
 
--- A scenario that is accepted is safe, and its hosts have outlines that are sound and fit. One that is refused is so for the
--- first reason that the least sound outlines show. Of histories a check says nothing.
+-- A scenario that is accepted is safe, and where somebody else looks at the disk by the hosts' paths too; its hosts have outlines
+-- that are sound and fit. One that is refused is so for the first reason that the least sound outlines show. Of histories a check
+-- says nothing.
 abbrev pub Holds : Scenario → Verdict → Type 0
-Holds s Accepted = IsSafe s × HaveOutlines s
+Holds s Accepted = IsSafe (on_shared_paths s) × HaveOutlines s
 Holds s (Refused reason) = IsFirstReason s reason
 Holds s (Legal items) = ⊥
 Holds s (Illegal place) = ⊥

@@ -2,7 +2,7 @@
 -- What `fence witness` writes.
 use Rattle.std.specs.Prelude.{ℕ, Bool, true, false, List, [], ◌∷◌, codes, Option, None, Some, Result}
 use Rattle.std.specs.Fmt.{decimal}
-use Rattle.pr_roles.specs.Scenarios.{Scenario}
+use Rattle.pr_roles.specs.Scenarios.{Scenario, on_shared_paths}
 use Rattle.pr_roles.specs.Safety.{IsSafe}
 use Rattle.pr_roles.specs.declared.refusal.Refusal.{Refusal}
 use Rattle.pr_verify.specs.Verdicts.{IsFirstReason}
@@ -30,7 +30,7 @@ pub data Answer : Type 0 where
   searched : Refusal → Finding → Answer
 
 abbrev pub Holds : Scenario → Answer → Type 0
-Holds s accepted = IsSafe s
+Holds s accepted = IsSafe (on_shared_paths s)
 Holds s (searched refusal search) = IsFirstReason s refusal × IsFound s refusal search
 
 abbrev pub search_text : List (List ℕ) → Finding → List ℕ

@@ -77,7 +77,7 @@ struct Ran {
 }
 
 // Reads the text, and runs its scenario where that is accepted.
-#[tactic(auto, using(crate::proofs::lemmas::Runs::Outcomes::fault_performed, crate::proofs::lemmas::Runs::Outcomes::run_performed, crate::proofs::lemmas::Runs::Outcomes::refusal_performed))]
+#[tactic(auto, using(crate::proofs::lemmas::Runs::Outcomes::fault_performed, crate::proofs::lemmas::Runs::Outcomes::refusal_performed))]
 fn perform<T: Threads + Wait + Sync, R: Read>(
     rt: &T,
     alloc: Global,

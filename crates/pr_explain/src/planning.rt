@@ -3,7 +3,7 @@
 
 ghost use Rattle.std.specs.Prelude.{◌≡◌, ◌↔◌, false, true, map, IfOk, IfSome};
 ghost use Rattle.pr_roles.specs.Safety.{IsSafe};
-ghost use Rattle.pr_roles.specs.Scenarios.{scenario_of};
+ghost use Rattle.pr_roles.specs.Scenarios.{on_shared_paths, scenario_of};
 ghost use Rattle.pr_verify.specs.Outlines.{HaveOutlines};
 ghost use Rattle.pr_views.specs.Tables.{table_of};
 ghost use Rattle.pr_verify.specs.Tables.{AreTables};
@@ -48,7 +48,7 @@ pub fn explanation(alloc: Global, scenario: Scenario) -> Result<Explanation, All
 }
 
 fn accepted(alloc: Global, scenario: Scenario, tables: &[Table]) -> Result<Explanation, AllocError>
-    requires { IsSafe (scenario_of scenario) }
+    requires { IsSafe (on_shared_paths (scenario_of scenario)) }
     ensures scenario { IfOk result (λ e. scenario_in e ≡ scenario) }
     ensures accepted { IfOk result (λ e. is_refusal e ≡ false) }
     ensures holds { IfOk result (Holds (scenario_of scenario)) }

@@ -1,13 +1,14 @@
 -- Agrees with docs/MODEL.md, 'Starts'.
--- Laws of starts, of refusals, and of resets.
-use Rattle.std.specs.Prelude.{◌≡◌, ◌≤◌, ◌↔◌, ℕ, Bool, true, false, ◌==◌, ◌&&◌, IsTrue, List, Some, IsSome}
+-- Laws of starts, of refusals, of resets, and of fetches.
+use Rattle.std.specs.Prelude.{◌≡◌, ◌≢◌, ◌≤◌, ◌↔◌, ℕ, Bool, true, false, ◌==◌, ◌&&◌, IsTrue, List, Some, IsSome}
 use Rattle.std.specs.List.{slice_get, count_by}
 use Rattle.pr_roles.specs.declared.item.Item.{Item}
 use Rattle.pr_roles.specs.declared.how.How.{How}
 use Rattle.pr_roles.specs.declared.how.How.TheVariants as how
 use Rattle.pr_roles.specs.Answers.{refusals_by, most_refusals, may_come}
-use Rattle.pr_roles.specs.Worlds.{World, Event, Host, Guest, UnitReset, Run, world_from, resets_in, may_reset}
-use Rattle.pr_unit.specs.UnitStates.{UnitState}
+use Rattle.pr_roles.specs.Worlds.{World, Event, Host, Guest, UnitReset, Fetched, Happens, Run, world_from, resets_in, may_reset}
+use Rattle.pr_unit.specs.Laws.{IsQuiet}
+use Rattle.pr_unit.specs.UnitStates.{UnitState, is_pending}
 use Rattle.pr_roles.specs.Scenarios.{Scenario}
 use Rattle.pr_roles.specs.Fitting.{Fits}
 use Rattle.pr_roles.specs.Starts.{IsAllowedStart, CanStart}
@@ -42,6 +43,7 @@ abbrev pub is_refused_in : ℕ → How → Event → Bool
 is_refused_in h how (Host g other) = g == h && is_same_refusal how other
 is_refused_in h how (Guest g wire other) = g == h && is_same_refusal how other
 is_refused_in h how UnitReset = false
+is_refused_in h how (Fetched g code) = false
 
 -- the history of a run tells how often a nexus was refused
 abbrev pub RefusalsAreCounted : Type 0
@@ -66,6 +68,7 @@ abbrev pub is_reset_event : Event → Bool
 is_reset_event (Host h how) = false
 is_reset_event (Guest g wire how) = false
 is_reset_event UnitReset = true
+is_reset_event (Fetched h code) = false
 
 -- the history of a run tells how often the unit was reset
 abbrev pub ResetsAreCounted : Type 0
@@ -80,3 +83,21 @@ ResetsAreDeclared =
 -- in a scenario of version 1 there is none
 abbrev pub FirstVersionHasNoReset : Type 0
 FirstVersionHasNoReset = (s : Scenario) → Fits s → s.version ≡ 1 → (es : List Item) → may_reset s es ≡ false
+
+-- ---- fetches
+
+-- nobody but the scripts and the guests sends on any path, so that nothing is fetched
+abbrev pub NobodyShares : Scenario → Type 0
+NobodyShares s = (h : ℕ) → s.shared h ≡ false
+
+-- what a fetch leaves: one attention of that nexus is pending no more, and nothing else is another
+pub record IsAfterFetch (w : World) (h code : ℕ) (v : World) : Type 0 where
+  pub gone : is_pending v.unit h code ≡ false
+  pub quiet : IsQuiet w.unit h v.unit
+  pub others : (other : ℕ) → other ≢ code → is_pending v.unit h other ≡ is_pending w.unit h other
+  pub controls : v.controls ≡ w.controls
+  pub history : v.history ≡ w.history
+
+-- no script hears of a fetch
+abbrev pub FetchesAreUnheard : Type 0
+FetchesAreUnheard = (s : Scenario) (w : World) (h code : ℕ) (v : World) → Happens s w (Fetched h code) v → IsAfterFetch w h code v

@@ -1,12 +1,12 @@
 -- Agrees with docs/VERDICTS.md, '`accepted`'.
--- What safety promises of the next event.
+-- What safety promises of the next event, and of a scenario on whose paths nobody else looks at the disk.
 use Rattle.std.specs.Prelude.{◌≡◌, ℕ, true, false, IsTrue, List, [], ◌∷◌, ◌++◌}
 use Rattle.pr_cdb.specs.declared.wire.Request.TheVariants.{Plain}
 use Rattle.pr_unit.specs.UnitStates.{UnitState}
 use Rattle.pr_unit.specs.Replies.{is_good}
 use Rattle.pr_roles.specs.declared.how.How.{How}
 use Rattle.pr_roles.specs.Permits.{is_permitted}
-use Rattle.pr_roles.specs.Scenarios.{Scenario, role, task}
+use Rattle.pr_roles.specs.Scenarios.{Scenario, on_shared_paths, role, task}
 use Rattle.pr_roles.specs.Starts.{IsAllowedStart}
 use Rattle.pr_roles.specs.Worlds.{World, Event, HostSends, Happens, Run, control, is_trapped, world_from}
 use Rattle.pr_roles.specs.Safety.{IsSafe, KeepsBudgetBy}
@@ -27,3 +27,7 @@ abbrev pub SafeSendsAreFine : Type 0
 SafeSendsAreFine =
     (s : Scenario) (u : UnitState) (es : List Event) (w : World) (h : ℕ) (how : How) (v : World) → IsSafe s → IsAllowedStart s u → Run s (world_from s u) es w
     → (sends : HostSends s w h how v) → IsFine s w h how v sends
+
+-- who is safe where somebody else may look at the disk by each path is safe as the scenario has it
+abbrev pub SharedPathsAreNoSafer : Type 0
+SharedPathsAreNoSafer = (s : Scenario) → IsSafe (on_shared_paths s) → IsSafe s

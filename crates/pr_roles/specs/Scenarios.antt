@@ -1,6 +1,6 @@
 -- Agrees with docs/FORMATS.md, 'Scenario text'.
 -- What a scenario declares, and the scenario that its parts are.
-use Rattle.std.specs.Prelude.{ℕ, List, [], Option, Some, None, map}
+use Rattle.std.specs.Prelude.{ℕ, Bool, true, false, List, [], Option, Some, None, map}
 use Rattle.std.specs.List.{slice_get}
 use Rattle.std.specs.Option.{option_map_or}
 use Rattle.pr_cdb.specs.declared.command.Command.{Command}
@@ -31,14 +31,20 @@ pub record Nexus : Type 0 where
   pub full : ℕ
 
 -- The version of its text, the declared keys, the reservations that there may be at the start, the generation of the first start,
--- how often the unit may be reset, and the nexuses in the order of their numbers.
+-- how often the unit may be reset, on whose paths somebody else may take attentions away, and the nexuses in the order of their
+-- numbers.
 pub record Scenario : Type 0 where
   pub version : ℕ
   pub keys : List ℕ
   pub reservations : List (Option Held)
   pub generation : ℕ
   pub resets : ℕ
+  pub shared : ℕ → Bool
   pub nexuses : List Nexus
+
+-- the same scenario where somebody else may send on each path, as on Linux the kernel does, and multipathd
+abbrev pub on_shared_paths : Scenario → Scenario
+on_shared_paths s = record s { shared = λ h. true }
 
 abbrev pub nexus : Scenario → ℕ → Option Nexus
 nexus s h = slice_get s.nexuses h
@@ -65,6 +71,7 @@ nexus_of n = record {
   full = n.full;
 }
 
+-- In versions 1 and 2 nobody but a host's script sends on its path.
 unfoldable pub scenario_of : Parts → Scenario
 scenario_of p = record {
   version = p.version;
@@ -72,5 +79,6 @@ scenario_of p = record {
   reservations = p.reservations.items;
   generation = p.generation;
   resets = p.resets;
+  shared = λ h. false;
   nexuses = map nexus_of p.nexuses.items;
 }

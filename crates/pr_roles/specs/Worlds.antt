@@ -1,6 +1,7 @@
 -- Agrees with docs/MODEL.md, 'Worlds, events and runs'.
 -- A logical unit with the scripts that drive it, and what may happen to them. One event is one command of one
--- nexus: it is executed and answered, and a host's script takes the reply. Or it is a reset of the unit.
+-- nexus: it is executed and answered, and a host's script takes the reply. Or it is a reset of the unit, or somebody else
+-- is told of what is pending for a host.
 use Rattle.std.specs.Prelude.{◌≡◌, ℕ, ◌≤◌, ◌==◌, Bool, true, false, nat_lt, IsTrue, List, [], ◌∷◌, ◌++◌, length, Option, Some, None, map, slice_set, Ok}
 use Rattle.std.specs.List.{slice_get, count_by}
 use Rattle.std.specs.Option.{option_map_or}
@@ -12,7 +13,7 @@ use Rattle.pr_cdb.specs.declared.wire.Request.{Request}
 use Rattle.pr_cdb.specs.declared.wire.Request.TheVariants.{Plain}
 use Rattle.pr_cdb.specs.Requests.{request_of_wire, AreBytes}
 use Rattle.pr_cdb.specs.Spelling.{spelling}
-use Rattle.pr_unit.specs.UnitStates.{UnitState, reset}
+use Rattle.pr_unit.specs.UnitStates.{UnitState, is_pending, after_report, reset}
 use Rattle.pr_unit.specs.Replies.{is_good}
 use Rattle.pr_script.specs.Scripts.{Configuration, Standing, ready, standing_of_items, first_configuration}
 use Rattle.pr_script.specs.Takes.{take}
@@ -72,11 +73,17 @@ after w h line wire r unit = record {
 abbrev pub after_reset : World → World
 after_reset w = record w { unit = reset w.unit; history = w.history ++ Reset ∷ [] }
 
--- a host's script sends, or a guest sends these bytes, and is answered so; or the unit is reset
+-- the world once somebody else on the path of h was told of this attention: no script hears of that, and it stands in no history
+abbrev pub after_fetch : World → ℕ → ℕ → World
+after_fetch w h code = record w { unit = after_report w.unit h code }
+
+-- a host's script sends, or a guest sends these bytes, and is answered so; or the unit is reset; or somebody else on the path of
+-- a nexus is told of an attention that is pending for that nexus
 pub data Event : Type 0 where
   Host : ℕ → How → Event
   Guest : ℕ → Wire → How → Event
   UnitReset : Event
+  Fetched : ℕ → ℕ → Event
 
 -- The command that host h is ready to send is answered so, as often as the scenario has it, and its script takes the reply.
 pub record HostSends (s : Scenario) (w : World) (h : ℕ) (how : How) (v : World) : Type 0 where
@@ -128,10 +135,17 @@ pub record IsReset (s : Scenario) (w v : World) : Type 0 where
   pub room : IsTrue (may_reset s w.history)
   pub world : v ≡ after_reset w
 
+-- Any attention of a nexus whose path is shared may be fetched at any time, as often as one is pending.
+pub record IsFetched (s : Scenario) (w : World) (h code : ℕ) (v : World) : Type 0 where
+  pub shares : IsTrue (s.shared h)
+  pub pending : IsTrue (is_pending w.unit h code)
+  pub world : v ≡ after_fetch w h code
+
 abbrev pub Happens : Scenario → World → Event → World → Type 0
 Happens s w (Host h how) v = HostSends s w h how v
 Happens s w (Guest g wire how) v = GuestSends s w g wire how v
 Happens s w UnitReset v = IsReset s w v
+Happens s w (Fetched h code) v = IsFetched s w h code v
 
 -- these events, one after another, lead from w to v
 abbrev pub Run : Scenario → World → List Event → World → Type 0

@@ -1,8 +1,8 @@
-//! Laws of starts, of refusals, of resets and of safe runs, each the contract of a function with nothing to do.
+//! Laws of starts, of refusals, of resets, of fetches and of safe runs, each the contract of a function with nothing to do.
 
 ghost use Rattle.pr_roles.specs.Limits.{LimitsAgree};
-ghost use Rattle.pr_roles.specs.SafeRuns.{RunsGoOn, SafeSendsAreFine};
-ghost use Rattle.pr_roles.specs.Laws.{StartsAreFound, FirstStartsAreEarliest, RefusalsAreCounted, RefusalsAreDeclared, FirstVersionIsPlain, ResetsAreCounted, ResetsAreDeclared, FirstVersionHasNoReset};
+ghost use Rattle.pr_roles.specs.SafeRuns.{RunsGoOn, SafeSendsAreFine, SharedPathsAreNoSafer};
+ghost use Rattle.pr_roles.specs.Laws.{StartsAreFound, FirstStartsAreEarliest, RefusalsAreCounted, RefusalsAreDeclared, FirstVersionIsPlain, ResetsAreCounted, ResetsAreDeclared, FirstVersionHasNoReset, FetchesAreUnheard};
 
 /// Where parts fit, some state is allowed to start from exactly where the first start finds a reservation.
 pub fn starts_are_found()
@@ -49,6 +49,11 @@ pub fn first_version_has_no_reset()
     ensures { FirstVersionHasNoReset }
 {}
 
+/// Where somebody else is told of an attention, it is pending no more, no script goes on, and nothing stands in the history.
+pub fn fetches_are_unheard()
+    ensures { FetchesAreUnheard }
+{}
+
 /// A run and one event more are a run.
 #[tactic(auto, using(crate::proofs::lemmas::SafeRuns::NextEvents::runs_go_on))]
 pub fn runs_go_on()
@@ -59,4 +64,9 @@ pub fn runs_go_on()
 /// role.
 pub fn safe_sends_are_fine()
     ensures { SafeSendsAreFine }
+{}
+
+/// A scenario that is safe where somebody else may look at the disk by each path is safe where nobody does.
+pub fn shared_paths_are_no_safer()
+    ensures { SharedPathsAreNoSafer }
 {}

@@ -1,13 +1,14 @@
 //! Scenarios that are safe by their type.
 
 ghost use Rattle.std.specs.Prelude.{◌≡◌};
-ghost use Rattle.pr_roles.specs.Scenarios.{scenario_of};
+ghost use Rattle.pr_roles.specs.Scenarios.{on_shared_paths, scenario_of};
 ghost use Rattle.pr_roles.specs.Safety.{IsSafe};
 
+use crate::laws::shared_paths_are_no_safer;
 use crate::scenario::Scenario;
 use std::marker::Model;
 
-/// A scenario that was verified: it is safe.
+/// A scenario that was verified: it is safe, and where somebody else may look at the disk by each path too.
 #[derive(Drop)]
 pub struct Verified {
     scenario: Scenario,
@@ -16,7 +17,7 @@ pub struct Verified {
 impl Model for Verified {
     ghost use Rattle.pr_roles.specs.contracts.scenario.Scenario as scenario_code;
     ghost use Rattle.pr_roles.specs.declared.parts.Parts.{Parts};
-    ghost use Rattle.pr_roles.specs.Scenarios.{scenario_of};
+    ghost use Rattle.pr_roles.specs.Scenarios.{on_shared_paths, scenario_of};
     ghost use Rattle.pr_roles.specs.Safety.{IsSafe};
 
     ghost Value = { Parts };
@@ -25,13 +26,13 @@ impl Model for Verified {
 
     ghost view = { λ v. v.scenario };
 
-    ghost invariant = { λ v. IsSafe (scenario_of v.scenario) };
+    ghost invariant = { λ v. IsSafe (on_shared_paths (scenario_of v.scenario)) };
 }
 
 impl Verified {
     /// The scenario, which is safe, as one that was verified.
     pub fn of(scenario: Scenario) -> Self
-        requires { IsSafe (scenario_of scenario) }
+        requires { IsSafe (on_shared_paths (scenario_of scenario)) }
         ensures { result ≡ scenario }
     {
         Verified { scenario }
@@ -40,8 +41,10 @@ impl Verified {
     /// The very scenario that was verified.
     pub fn scenario(&self) -> &Scenario
         ensures value { result.now ≡ self.now }
+        ensures shared { IsSafe (on_shared_paths (scenario_of self.now)) }
         ensures safe { IsSafe (scenario_of self.now) }
     {
+        shared_paths_are_no_safer();
         &self.scenario
     }
 }

@@ -4,6 +4,7 @@ use Rattle.std.specs.Prelude.{◌≡◌, ℕ, List, [], map, Option, unwrap_or, 
 use Rattle.pr_attention.specs.Attentions.{Codes}
 use Rattle.pr_attention.specs.CodeSets.{no_code}
 use Rattle.pr_roles.specs.declared.role.Clause.{Clause}
+use Rattle.pr_roles.specs.Laws.{NobodyShares}
 use Rattle.pr_roles.specs.Scenarios.{Scenario, Nexus, Task, Scripted, Planned, scenario_of}
 use Rattle.pr_roles.specs.declared.parts.Parts.{Parts}
 use Rattle.pr_text.specs.declared.fault.ReadError.{ReadError}
@@ -43,13 +44,14 @@ nexus_declared x = record {
 }
 
 -- The scenario is just what is declared: its scripts are written as the lines that were read. Where no line says how
--- often the unit may be reset, it is not reset.
+-- often the unit may be reset, it is not reset. No line says that a path is shared.
 pub record IsDeclaredBy (d : Declared) (s : Scenario) : Type 0 where
   pub version : s.version ≡ d.version
   pub keys : s.keys ≡ unwrap_or d.keys []
   pub reservations : s.reservations ≡ reservations_of d
   pub generation : s.generation ≡ unwrap_or d.generation 0
   pub resets : s.resets ≡ unwrap_or d.resets 0
+  pub alone : NobodyShares s
   pub nexuses : map nexus_written s.nexuses ≡ map nexus_declared d.nexuses
 
 -- The text has no fault, and the scenario is what it declares.

@@ -9,6 +9,7 @@ use Rattle.pr_registry.specs.declared.held.Held.TheVariants.{One, All as Everybo
 use Rattle.pr_attention.specs.declared.attention.Attention.{Attention}
 use Rattle.pr_attention.specs.Attentions.{Codes, code_of, each_attention}
 use Rattle.pr_attention.specs.CodeSets.{AreAttentions}
+use Rattle.pr_roles.specs.Laws.{NobodyShares}
 use Rattle.pr_roles.specs.Scenarios.{Scenario, Nexus, Task, Scripted, Planned}
 use Rattle.pr_roles.specs.Starts.{CanStart}
 use Rattle.pr_roles.specs.Fitting.{Fits}
@@ -93,7 +94,7 @@ pub record IsSaid (n : ℕ) (s : Scenario) : Type 0 where
   pub faultless : all_said (lines_said n s) nothing ≡ Ok declared
   pub whole : IsWhole n declared s
 
--- The lines of a scenario have no fault, if its parts fit, some state is allowed to start from, and what may be
--- pending are attentions.
+-- The lines of a scenario have no fault, if its parts fit, some state is allowed to start from, nobody shares a path, and what
+-- may be pending are attentions.
 abbrev pub ScenariosHaveNoFault : Type 0
-ScenariosHaveNoFault = (n : ℕ) (s : Scenario) → Fits s → CanStart s → All (λ x. AreAttentions x.pending) s.nexuses → IsSaid n s
+ScenariosHaveNoFault = (n : ℕ) (s : Scenario) → Fits s → CanStart s → NobodyShares s → All (λ x. AreAttentions x.pending) s.nexuses → IsSaid n s

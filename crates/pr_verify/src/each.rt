@@ -1,7 +1,7 @@
 //! The verdict on a scenario whose hosts are checked side by side.
 
 ghost use Rattle.std.specs.Prelude.{◌≡◌, ◌<◌, ◌≤◌, length, IfOk, IfErr, OnOk, vec_len, vec_capacity};
-ghost use Rattle.pr_roles.specs.Scenarios.{scenario_of};
+ghost use Rattle.pr_roles.specs.Scenarios.{on_shared_paths, scenario_of};
 ghost use Rattle.pr_roles.specs.Safety.{IsSafe};
 ghost use Rattle.pr_verify.specs.Outlines.{AllSendsFit, HaveOutlines};
 ghost use Rattle.pr_verify.specs.Verdicts.{IsFinal, IsVerdict};
@@ -30,7 +30,7 @@ pub fn verify_each<G: CheckGate, R: Threads + Wait + Sync>(
     gate: &G,
 ) -> Result<Verified, Refused>
     ensures same { IfOk result (λ verified. verified ≡ scenario) }
-    ensures safe { IfOk result (λ verified. IsSafe (scenario_of verified)) }
+    ensures safe { IfOk result (λ verified. IsSafe (on_shared_paths (scenario_of verified))) }
     ensures outlines { IfOk result (λ verified. HaveOutlines (scenario_of verified)) }
     ensures back { IfErr result (λ refused. refused.scenario ≡ scenario) }
     ensures verdict { IfErr result (λ refused. IsVerdict (scenario_of scenario) refused.refusal) }

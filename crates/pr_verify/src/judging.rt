@@ -2,7 +2,7 @@
 
 ghost use Rattle.std.specs.Prelude.{map, IfNone, IfOk, IfSome};
 ghost use Rattle.pr_roles.specs.Safety.{IsSafe};
-ghost use Rattle.pr_roles.specs.Scenarios.{scenario_of};
+ghost use Rattle.pr_roles.specs.Scenarios.{on_shared_paths, scenario_of};
 ghost use Rattle.pr_verify.specs.Outlines.{HaveOutlines};
 ghost use Rattle.pr_views.specs.Tables.{table_of};
 ghost use Rattle.pr_verify.specs.Rooms.{AreMadeFor};
@@ -32,7 +32,7 @@ pub fn judge(alloc: Global, scenario: &Scenario) -> Result<Judged, AllocError>
     ensures made { IfOk result (λ judged. AreMadeFor (scenario_of scenario.now)
         judged.tables.items) }
     ensures safe { IfOk result (λ judged. IfNone judged.refusal
-        (IsSafe (scenario_of scenario.now))) }
+        (IsSafe (on_shared_paths (scenario_of scenario.now)))) }
     ensures outlines { IfOk result (λ judged. IfNone judged.refusal
         (HaveOutlines (scenario_of scenario.now))) }
     ensures reason { IfOk result (λ judged. IfSome judged.refusal

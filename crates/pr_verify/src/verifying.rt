@@ -1,7 +1,7 @@
 //! The verdict on a scenario.
 
 ghost use Rattle.std.specs.Prelude.{◌≡◌, ◌<◌, length, IfOk, IfErr, OnOk};
-ghost use Rattle.pr_roles.specs.Scenarios.{scenario_of};
+ghost use Rattle.pr_roles.specs.Scenarios.{on_shared_paths, scenario_of};
 ghost use Rattle.pr_roles.specs.Safety.{IsSafe};
 ghost use Rattle.pr_verify.specs.Outlines.{AllSendsFit, HaveOutlines, HostSendsFit, IsCarried};
 ghost use Rattle.pr_verify.specs.Verdicts.{IsFinal, IsVerdict};
@@ -29,7 +29,7 @@ pub struct Refused {
 /// was refused; but for memory, no sound outlines of its hosts fit.
 pub fn verify(alloc: Global, scenario: Scenario) -> Result<Verified, Refused>
     ensures same { IfOk result (λ verified. verified ≡ scenario) }
-    ensures safe { IfOk result (λ verified. IsSafe (scenario_of verified)) }
+    ensures safe { IfOk result (λ verified. IsSafe (on_shared_paths (scenario_of verified))) }
     ensures outlines { IfOk result (λ verified. HaveOutlines (scenario_of verified)) }
     ensures back { IfErr result (λ refused. refused.scenario ≡ scenario) }
     ensures verdict { IfErr result (λ refused. IsVerdict (scenario_of scenario) refused.refusal) }
@@ -48,7 +48,7 @@ pub(crate) fn verdict_on(
     requires fields { OnOk checked (AllSendsFit (scenario_of scenario)) }
     requires verdict { IfErr checked (IsVerdict (scenario_of scenario)) }
     ensures same { IfOk result (λ verified. verified ≡ scenario) }
-    ensures safe { IfOk result (λ verified. IsSafe (scenario_of verified)) }
+    ensures safe { IfOk result (λ verified. IsSafe (on_shared_paths (scenario_of verified))) }
     ensures outlines { IfOk result (λ verified. HaveOutlines (scenario_of verified)) }
     ensures back { IfErr result (λ refused. refused.scenario ≡ scenario) }
     ensures verdict { IfErr result (λ refused. IsVerdict (scenario_of scenario) refused.refusal) }

@@ -22,7 +22,7 @@ unfoldable pub use Rattle.pr_roles.specs.Safety.{IsSafe}
 pub use Rattle.pr_roles.specs.Scenarios.{Task, Scripted, Planned, Nexus, role, task, Scenario, nexus, nexus_of}
 unfoldable pub use Rattle.pr_roles.specs.Scenarios.{scenario_of}
 pub use Rattle.pr_roles.specs.Schedules.{Schedule, plan, next_of, is_passed_over, TurnAs, Turn}
-pub use Rattle.pr_roles.specs.Worlds.{Control, Going, Trapped, Free, standing_of, control_after, World, control, entry_of, Event, Host, Guest, UnitReset, is_guest_task, may_reset, Happens, control_of, world_from, commands_by, is_trapped}
+pub use Rattle.pr_roles.specs.Worlds.{Control, Going, Trapped, Free, standing_of, control_after, World, control, entry_of, Event, Host, Guest, UnitReset, Fetched, is_guest_task, may_reset, Happens, control_of, world_from, commands_by, is_trapped}
 pub use Rattle.pr_roles.specs.declared.entry.Entry.{Entry}
 pub use Rattle.pr_roles.specs.declared.how.How.{How}
 pub use Rattle.pr_roles.specs.declared.item.Item.{Item}

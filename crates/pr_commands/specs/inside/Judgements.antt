@@ -1,7 +1,7 @@
 -- A scenario that was judged, and its verdict not written yet.
 use Rattle.std.specs.Prelude.{ℕ, List, Option, IfSome, Result, Ok, Err}
 use Rattle.pr_roles.specs.declared.parts.Parts.{Parts}
-use Rattle.pr_roles.specs.Scenarios.{scenario_of}
+use Rattle.pr_roles.specs.Scenarios.{on_shared_paths, scenario_of}
 use Rattle.pr_roles.specs.Safety.{IsSafe}
 use Rattle.pr_text.specs.Reading.{IsWrittenAs}
 use Rattle.pr_verify.specs.declared.verifying.Refused.{Refused}
@@ -33,7 +33,7 @@ Stands j = Holds (scenario_of (scenario_in j)) (verdict_in j)
 
 -- what a verification answers: what stands, or that memory was refused
 abbrev pub IsVerified : Judgement → Type 0
-IsVerified (Ok verified) = IsSafe (scenario_of verified) × HaveOutlines (scenario_of verified)
+IsVerified (Ok verified) = IsSafe (on_shared_paths (scenario_of verified)) × HaveOutlines (scenario_of verified)
 IsVerified (Err refused) = IsVerdict (scenario_of refused.scenario) refused.refusal
 
 abbrev pub judgement_text : Judgement → List ℕ

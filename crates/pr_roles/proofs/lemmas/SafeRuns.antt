@@ -1,1 +1,2 @@
 pub mod NextEvents
+pub mod SharedPaths

@@ -14,12 +14,12 @@ use Rattle.pr_roles.specs.declared.item.Item.TheVariants.{Sent, Reset}
 use Rattle.pr_roles.specs.Breaches.{Broken, meets_no_arm, leaves_role, exceeds_budget, Breaks, LeavesRole}
 use Rattle.pr_roles.specs.Permits.{is_permitted}
 use Rattle.pr_roles.specs.Scenarios.{role}
-use Rattle.pr_roles.specs.Worlds.{Event, Host, Guest, UnitReset, Happens, HostSends, control, entry_of, standing_of, world_from}
+use Rattle.pr_roles.specs.Worlds.{Event, Host, Guest, UnitReset, Fetched, Happens, HostSends, control, entry_of, standing_of, world_from}
 use Rattle.pr_roles.proofs.lemmas.Scenarios.Parts.{count_of_parts}
 use Rattle.pr_audit.specs.declared.auditor.Auditor.{Auditor}
 use Rattle.pr_audit.specs.Auditors.{Adds, IsTried, is_free, is_planned}
 use Rattle.pr_audit.proofs.lemmas.Auditors.Additions.{guests_free, same_entry, same_item}
-use Rattle.pr_audit.proofs.lemmas.Auditing.Histories.{reaches_more}
+use Rattle.pr_audit.proofs.lemmas.Auditing.Histories.{one_longer, reaches_more}
 use Rattle.pr_witness.specs.declared.breach.Breach.{Breach}
 use Rattle.pr_witness.specs.declared.breach.CertifiedRun.{CertifiedRun}
 use Rattle.pr_witness.specs.Breaches.{IsBreachOf, broken_of}
@@ -80,6 +80,7 @@ leaves s u w v e h line followed with_it adds = by adds.event adds.happens adds.
         let bad : None ≡ Some (ready line with_it.command) = sym free ∙ with_it.ready in
         cc
     by UnitReset resets added = let bad : Reset ≡ Sent e = same_item w.history v.history Reset (Sent e) (ap (λ x. x.history) resets.world) added in cc
+    by (Fetched g code) fetched added = absurd (one_longer w.history (Sent e) (sym (ap (λ x. x.history) fetched.world) ∙ added))
 
 -- ---- what is broken
 

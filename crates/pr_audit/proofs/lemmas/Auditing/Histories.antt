@@ -1,9 +1,13 @@
--- The histories of runs: each event adds one item, and what stands before the last one is the history of a run.
-use Rattle.pr_audit.proofs.Common.{◌≡◌, ℕ, List, [], ◌∷◌, ◌++◌, take, sym, refl, ap, ◌∙◌, subst, append-nil, spelling, UnitState, IsLegal, Scenario, World, entry_of, Event, Host, Guest, UnitReset, Happens, world_from, Item, Sent, Reset, Adds, Reaches}
+-- The histories of runs: each event adds one item, or none where somebody else is told of an attention, and what stands before the
+-- last one is the history of a run.
+use Rattle.pr_audit.proofs.Common.{◌≡◌, ℕ, Bool, true, false, List, [], ◌∷◌, ◌++◌, take, sym, refl, ap, ◌∙◌, subst, append-nil, false≢true, spelling, UnitState, IsLegal, Scenario, World, entry_of, Event, Host, Guest, UnitReset, Fetched, Happens, world_from, Item, Sent, Reset, Adds, Reaches}
 use Rattle.std.proofs.Common.{drop}
-use Rattle.std.proofs.lemmas.List.{append_assoc, take-append-drop}
+use Rattle.std.specs.Prelude.{◌⊎◌}
+use Rattle.std.proofs.Common.{inl, inr}
+use Rattle.std.proofs.lemmas.List.{append_assoc, append_cancel_left, take-append-drop}
 pub use Rattle.std.proofs.lemmas.List.{same_from_push as last_same}
 pub use Rattle.pr_roles.proofs.lemmas.SafeRuns.NextEvents.{runs_go_on as run_then}
+use Rattle.pr_roles.specs.Laws.{NobodyShares}
 use Rattle.pr_roles.specs.Worlds.{Run}
 
 -- ---- the last of a list
@@ -12,16 +16,38 @@ not_nil : {X : Type 0} (xs : List X) (x : X) → xs ++ x ∷ [] ≡ [] → ⊥
 not_nil [] x is = let bad : x ∷ [] ≡ [] = is in cc
 not_nil (y ∷ xs) x is = let bad : y ∷ (xs ++ x ∷ []) ≡ [] = is in cc
 
+-- a history is no longer than itself
+pub one_longer : (es : List Item) (i : Item) → es ≡ es ++ i ∷ [] → ⊥
+one_longer es i is = let bad : [] ≡ i ∷ [] = append_cancel_left es [] (i ∷ []) (append-nil es ∙ is) in cc
+
 -- ---- the last event of a run
 
 record HasAdded (w v : World) : Type 0 where
   pub item : Item
   pub added : v.history ≡ w.history ++ item ∷ []
 
-has_added : (s : Scenario) (w : World) (event : Event) (v : World) → Happens s w event v → HasAdded w v
-has_added s w (Host h so) v sends = record { item = Sent (entry_of h (spelling sends.command) sends.reply); added = ap (λ x. x.history) sends.world }
-has_added s w (Guest g wire so) v sends = record { item = Sent (entry_of g wire sends.reply); added = ap (λ x. x.history) sends.world }
-has_added s w UnitReset v resets = record { item = Reset; added = ap (λ x. x.history) resets.world }
+is_fetch : Event → Bool
+is_fetch (Host h so) = false
+is_fetch (Guest g wire so) = false
+is_fetch UnitReset = false
+is_fetch (Fetched h code) = true
+
+has_added : (s : Scenario) (w : World) (event : Event) (v : World) → is_fetch event ≡ false → Happens s w event v → HasAdded w v
+unfolding is_fetch
+has_added s w (Host h so) v other sends = record { item = Sent (entry_of h (spelling sends.command) sends.reply); added = ap (λ x. x.history) sends.world }
+has_added s w (Guest g wire so) v other sends = record { item = Sent (entry_of g wire sends.reply); added = ap (λ x. x.history) sends.world }
+has_added s w UnitReset v other resets = record { item = Reset; added = ap (λ x. x.history) resets.world }
+has_added s w (Fetched h code) v other fetched = absurd (false≢true (sym other))
+
+nothing_added : (s : Scenario) (w : World) (event : Event) (v : World) → is_fetch event ≡ true → Happens s w event v → v.history ≡ w.history
+unfolding is_fetch
+nothing_added s w (Fetched h code) v is fetched = ap (λ x. x.history) fetched.world
+nothing_added s w _ v is happens = absurd (false≢true is)
+
+none_fetched : (s : Scenario) (w : World) (event : Event) (v : World) → NobodyShares s → Happens s w event v → is_fetch event ≡ false
+unfolding is_fetch
+none_fetched s w (Fetched h code) v alone fetched = absurd (false≢true (sym (alone h) ∙ fetched.shares))
+none_fetched s w _ v alone happens = refl
 
 record HasLast (s : Scenario) (w v : World) : Type 0 where
   pub before : World
@@ -61,19 +87,64 @@ reaches_more s u history w e v reaches adds = record {
 }
 
 -- before the last item there was a world that the others led to
-pub record ReachedBefore (s : Scenario) (u : UnitState) (history : List Item) (e : Item) (w : World) : Type 0 where
+pub record ReachedBefore (s : Scenario) (u : UnitState) (history : List Item) (e : Item) : Type 0 where
+  pub before : World
+  pub reaches : Reaches s u history before
+  pub after : World
+  pub adds : Adds s before e after
+
+-- the same, of a run that begins anywhere
+record IsPassed (s : Scenario) (w : World) (history : List Item) (e : Item) : Type 0 where
+  events : List Event
+  before : World
+  run : Run s w events before
+  items : before.history ≡ history
+  after : World
+  adds : Adds s before e after
+
+passed : (s : Scenario) (history : List Item) (e : Item) (w : World) (events : List Event) (v : World) → Run s w events v → v.history ≡ history ++ e ∷ [] → (w.history ≡ history ++ e ∷ []) ⊎ IsPassed s w history e
+passed s history e w [] v run items = inl (ap (λ x. x.history) (sym run) ∙ items)
+passed s history e w (event ∷ events) v run items = at (passed s history e run.0 events v run.2 items)
+  where
+    by : run.0.history ≡ history ++ e ∷ [] → (b : Bool) → is_fetch event ≡ b → (w.history ≡ history ++ e ∷ []) ⊎ IsPassed s w history e
+    by there true fetch = inl (sym (nothing_added s w event run.0 fetch run.1) ∙ there)
+    by there false other =
+        let new = has_added s w event run.0 other run.1 in
+        let same = last_same w.history history new.item e (sym new.added ∙ there) in
+        inr (record {
+          events = [];
+          before = w;
+          run = refl;
+          items = same.0;
+          after = run.0;
+          adds = record { event = event; happens = run.1; added = new.added ∙ ap (λ f. w.history ++ f ∷ []) same.1 };
+        })
+
+    at : (run.0.history ≡ history ++ e ∷ []) ⊎ IsPassed s run.0 history e → (w.history ≡ history ++ e ∷ []) ⊎ IsPassed s w history e
+    at (inl there) = by there (is_fetch event) refl
+    at (inr x) = inr (record { events = event ∷ x.events; before = x.before; run = (run.0, run.1, x.run); items = x.items; after = x.after; adds = x.adds })
+
+pub reached_before : (s : Scenario) (u : UnitState) (history : List Item) (e : Item) (w : World) → Reaches s u (history ++ e ∷ []) w → ReachedBefore s u history e
+reached_before s u history e w reaches = at (passed s history e (world_from s u) reaches.events w reaches.run reaches.items)
+  where
+    at : ([] ≡ history ++ e ∷ []) ⊎ IsPassed s (world_from s u) history e → ReachedBefore s u history e
+    at (inl none) = absurd (not_nil history e (sym none))
+    at (inr x) = record { before = x.before; reaches = record { events = x.events; run = x.run; items = x.items }; after = x.after; adds = x.adds }
+
+-- where nobody else is told of anything, the last item leads to the last world
+pub record ReachedLast (s : Scenario) (u : UnitState) (history : List Item) (e : Item) (w : World) : Type 0 where
   pub before : World
   pub reaches : Reaches s u history before
   pub adds : Adds s before e w
 
-pub reached_before : (s : Scenario) (u : UnitState) (history : List Item) (e : Item) (w : World) → Reaches s u (history ++ e ∷ []) w → ReachedBefore s u history e w
-reached_before s u history e w reaches = by reaches.events reaches.run
+pub reached_last : (s : Scenario) (u : UnitState) (history : List Item) (e : Item) (w : World) → NobodyShares s → Reaches s u (history ++ e ∷ []) w → ReachedLast s u history e w
+reached_last s u history e w alone reaches = by reaches.events reaches.run
   where
-    by : (events : List Event) → Run s (world_from s u) events w → ReachedBefore s u history e w
+    by : (events : List Event) → Run s (world_from s u) events w → ReachedLast s u history e w
     by [] run = absurd (not_nil history e (sym reaches.items ∙ ap (λ x. x.history) run))
     by (event ∷ events) run =
         let last = has_last s (world_from s u) w event events run in
-        let new = has_added s last.before last.event w last.happens in
+        let new = has_added s last.before last.event w (none_fetched s last.before last.event w alone last.happens) last.happens in
         let same = last_same last.before.history history new.item e (sym new.added ∙ reaches.items) in
         record {
           before = last.before;
@@ -86,14 +157,14 @@ reached_before s u history e w reaches = by reaches.events reaches.run
         }
 
 -- a run without history has not begun
-pub reached_at_first : (s : Scenario) (u : UnitState) (w : World) → Reaches s u [] w → w ≡ world_from s u
-reached_at_first s u w reaches = by reaches.events reaches.run
+pub reached_at_first : (s : Scenario) (u : UnitState) (w : World) → NobodyShares s → Reaches s u [] w → w ≡ world_from s u
+reached_at_first s u w alone reaches = by reaches.events reaches.run
   where
     by : (events : List Event) → Run s (world_from s u) events w → w ≡ world_from s u
     by [] run = run
     by (event ∷ events) run =
         let last = has_last s (world_from s u) w event events run in
-        let new = has_added s last.before last.event w last.happens in
+        let new = has_added s last.before last.event w (none_fetched s last.before last.event w alone last.happens) last.happens in
         absurd (not_nil last.before.history new.item (sym new.added ∙ reaches.items))
 
 -- ---- the beginnings of a legal history are legal

@@ -1,5 +1,5 @@
 -- The items that some event adds to a world are just those that may come next.
-use Rattle.pr_audit.proofs.Common.{◌≡◌, ℕ, ◌<◌, ◌≤◌, Bool, true, false, List, [], ◌∷◌, ◌++◌, length, get_or, IsTrue, slice_get, slice_set, Some, None, Option, option_map, sym, refl, ap, ◌∙◌, subst, arith, option_map_or, map-set_same, false≢true, length-map, slice_get-map, slice_get-get_or, spelling, Command, Reply, Request, Plain, UnitState, ready, Answers, how_of, may_come, Task, Scripted, Planned, Nexus, role, Scenario, Control, Going, Trapped, Free, standing_of, control_after, World, control, entry_of, Event, Host, Guest, UnitReset, is_guest_task, Happens, Entry, How, Item, Sent, Reset, Adds, IsTried, is_free, ActFor, is_planned, IsJudged}
+use Rattle.pr_audit.proofs.Common.{◌≡◌, ℕ, ◌<◌, ◌≤◌, Bool, true, false, List, [], ◌∷◌, ◌++◌, length, get_or, IsTrue, slice_get, slice_set, Some, None, Option, option_map, sym, refl, ap, ◌∙◌, subst, arith, option_map_or, map-set_same, false≢true, length-map, slice_get-map, slice_get-get_or, spelling, Command, Reply, Request, Plain, UnitState, ready, Answers, how_of, may_come, Task, Scripted, Planned, Nexus, role, Scenario, Control, Going, Trapped, Free, standing_of, control_after, World, control, entry_of, Event, Host, Guest, UnitReset, Fetched, is_guest_task, Happens, Entry, How, Item, Sent, Reset, Adds, IsTried, is_free, ActFor, is_planned, IsJudged}
 use Rattle.std.proofs.Common.{◌||◌}
 use Rattle.std.proofs.lemmas.List.{append_cancel_left}
 use Rattle.std.proofs.lemmas.Option.{slice_get_past}
@@ -11,6 +11,7 @@ use Rattle.pr_unit.proofs.lemmas.Steps.Statuses.{steps_are_never_busy}
 use Rattle.pr_roles.specs.declared.how.How.TheVariants as how
 use Rattle.pr_roles.specs.Worlds.{GuestSends, is_guest, after as world_after}
 use Rattle.pr_audit.specs.inside.Auditing.{MayCome}
+use Rattle.pr_audit.proofs.lemmas.Auditing.Histories.{one_longer}
 use Rattle.pr_audit.proofs.lemmas.Auditing.Judgements.{may_fixed, free_judged, hosts_judged}
 
 -- the world after this entry, of one that acts so then
@@ -158,6 +159,7 @@ comes_by s w e x (Guest g wire so) free sends added =
     comes_as s w _ e x _ same (sym sends.world) (guest_comes so s w g wire x (free g sends.guest) sends)
 comes_by s w e x UnitReset free resets added =
     let same = same_item w.history x.history Reset (Sent e) (ap (λ z. z.history) resets.world) added in cc
+comes_by s w e x (Fetched h code) free fetched added = absurd (one_longer w.history (Sent e) (sym (ap (λ z. z.history) fetched.world) ∙ added))
 
 -- ---- just the guests send what they like
 

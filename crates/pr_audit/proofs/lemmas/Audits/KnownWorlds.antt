@@ -2,10 +2,11 @@
 use Rattle.pr_audit.proofs.Common.{◌≡◌, ℕ, ◌+◌, ◌<◌, ◌≤◌, true, List, [], ◌∷◌, ◌++◌, length, get_or, take, Some, sym, refl, ap, ◌∙◌, subst, arith, UnitState, IsLegal, Scenario, World, world_from, Item, Adds, IsTried, ActFor, Reaches}
 use Rattle.std.proofs.lemmas.List.{take_all, take_more, take-take}
 use Rattle.pr_roles.specs.FirstStarts.{first_state}
+use Rattle.pr_roles.specs.Laws.{NobodyShares}
 use Rattle.pr_audit.specs.declared.auditor.Auditor.{Auditor}
 use Rattle.pr_audit.specs.Audits.{IsLegalFromFirst, IsFirstIllegal}
 use Rattle.pr_audit.specs.Auditors.{world_at}
-use Rattle.pr_audit.proofs.lemmas.Auditing.Histories.{reached_legal, reaches_more, reached_before, reached_at_first, legal_take}
+use Rattle.pr_audit.proofs.lemmas.Auditing.Histories.{reached_legal, reaches_more, reached_last, reached_at_first, legal_take}
 
 -- whatever run from the first start has this history leads to the world of the audit, and some run does
 pub record IsKnown (s : Scenario) (history : List Item) (a : Auditor) : Type 0 where
@@ -15,24 +16,24 @@ pub record IsKnown (s : Scenario) (history : List Item) (a : Auditor) : Type 0 w
   pub only : (w : World) → Reaches s start history w → w ≡ world_at a history
   pub acts : ActFor s (world_at a [])
 
-pub known_first : (s : Scenario) (a : Auditor) → first_state s ≡ Some a.unit → world_at a [] ≡ world_from s a.unit → ActFor s (world_at a []) → IsKnown s [] a
-known_first s a first world acts = record {
+pub known_first : (s : Scenario) (a : Auditor) → NobodyShares s → first_state s ≡ Some a.unit → world_at a [] ≡ world_from s a.unit → ActFor s (world_at a []) → IsKnown s [] a
+known_first s a alone first world acts = record {
   start = a.unit;
   first = first;
   reaches = record { events = []; run = world; items = refl };
-  only = λ w reaches. reached_at_first s a.unit w reaches ∙ sym world;
+  only = λ w reaches. reached_at_first s a.unit w alone reaches ∙ sym world;
   acts = acts;
 }
 
 -- past one item more
-pub known_then : (s : Scenario) (history : List Item) (a b : Auditor) (e : Item) → IsKnown s history a → IsTried s (world_at a history) e true (world_at b (history ++ e ∷ []))
+pub known_then : (s : Scenario) (history : List Item) (a b : Auditor) (e : Item) → NobodyShares s → IsKnown s history a → IsTried s (world_at a history) e true (world_at b (history ++ e ∷ []))
     → ActFor s (world_at b []) → IsKnown s (history ++ e ∷ []) b
-known_then s history a b e known tried acts =
+known_then s history a b e alone known tried acts =
     record {
       start = known.start;
       first = known.first;
       reaches = reaches_more s known.start history (world_at a history) e (world_at b (history ++ e ∷ [])) known.reaches tried.0;
-      only = λ w reaches. let last = reached_before s known.start history e w reaches in
+      only = λ w reaches. let last = reached_last s known.start history e w alone reaches in
           tried.1 w (subst (λ v. Adds s v e w) (known.only last.before last.reaches) last.adds);
       acts = acts;
     }
@@ -45,11 +46,11 @@ known_all s history i a done known =
     record { start = all.start; first = all.first; legal = reached_legal s all.start history (world_at a history) all.reaches }
 
 -- no run has an item more that no event adds
-none_legal : (s : Scenario) (history : List Item) (a : Auditor) (e : Item) (known : IsKnown s history a) → ((x : World) → Adds s (world_at a history) e x → ⊥)
+none_legal : (s : Scenario) (history : List Item) (a : Auditor) (e : Item) → NobodyShares s → (known : IsKnown s history a) → ((x : World) → Adds s (world_at a history) e x → ⊥)
     → IsLegal s known.start (history ++ e ∷ []) → ⊥
-none_legal s history a e known none legal =
+none_legal s history a e alone known none legal =
     let reaches : Reaches s known.start (history ++ e ∷ []) legal.1 = record { events = legal.0; run = legal.2; items = legal.3 } in
-    let last = reached_before s known.start history e legal.1 reaches in
+    let last = reached_last s known.start history e legal.1 alone reaches in
     none legal.1 (subst (λ v. Adds s v e legal.1) (known.only last.before last.reaches) last.adds)
 
 -- there is one first start
@@ -59,9 +60,9 @@ one_start s history u first legal =
     let start : legal.start ≡ u = cc in
     subst (λ x. IsLegal s x history) start legal.legal
 
-pub first_illegal : (s : Scenario) (history : List Item) (i : ℕ) (a : Auditor) (e : Item) → i < length history → e ≡ get_or history i e → IsKnown s (take i history) a
+pub first_illegal : (s : Scenario) (history : List Item) (i : ℕ) (a : Auditor) (e : Item) → NobodyShares s → i < length history → e ≡ get_or history i e → IsKnown s (take i history) a
     → ((x : World) → Adds s (world_at a (take i history)) e x → ⊥) → IsFirstIllegal s history (i + 1)
-first_illegal s history i a e there is known none = record {
+first_illegal s history i a e alone there is known none = record {
   within = (omega arith, omega arith);
   exactly = λ n. (ends_before n, λ before. begins n before);
 }
@@ -70,7 +71,7 @@ first_illegal s history i a e there is known none = record {
     more = take_more history i e there ∙ ap (λ x. take i history ++ x ∷ []) (sym is)
 
     illegal : IsLegal s known.start (take (i + 1) history) → ⊥
-    illegal legal = none_legal s (take i history) a e known none (subst (IsLegal s known.start) more legal)
+    illegal legal = none_legal s (take i history) a e alone known none (subst (IsLegal s known.start) more legal)
 
     ends_before : (n : ℕ) → IsLegalFromFirst s (take n history) → n < i + 1
     ends_before n legal = omega (arith, past)

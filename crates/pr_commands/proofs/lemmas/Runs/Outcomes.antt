@@ -12,6 +12,7 @@ use Rattle.pr_roles.specs.Safety.{IsSafe}
 use Rattle.pr_roles.specs.Fitting.{Fits, is_nexus}
 use Rattle.pr_roles.specs.declared.item.Item.{Item}
 use Rattle.pr_world.specs.Rooms.{room_by}
+use Rattle.pr_roles.proofs.lemmas.SafeRuns.SharedPaths.{shared_paths_are_no_safer}
 use Rattle.pr_roles.proofs.lemmas.Starts.AllowedStarts.{each_nexus}
 use Rattle.pr_world.proofs.lemmas.Workings.Room.{sent_within}
 use Rattle.pr_world.proofs.lemmas.Workings.Reserves.{room_of_nexus}
@@ -78,7 +79,7 @@ pub run_performed : (known : Option (List ℕ)) (j : Judgement) (v : Parts) (ran
 run_performed known j v ran same judged copied comes =
     let here = subst (λ j. IfSome known (λ text. IsWrittenAs text (scenario_of (judged_in j))) × Judged j) same judged in (
       subst (λ s. IfSome known (λ text. IsWrittenAs text s)) (sym copied) here.0,
-      (subst IsSafe (sym copied) here.1.0, subst (λ s. IsOutcome s ran.outcome) (sym copied) comes),
+      (subst IsSafe (sym copied) (shared_paths_are_no_safer (scenario_of v) here.1.0), subst (λ s. IsOutcome s ran.outcome) (sym copied) comes),
     )
 
 -- ---- faults
@@ -100,4 +101,4 @@ pub fault_performed : (known : Option (List ℕ)) (j : Judgement) (v : Parts) (f
     → IfSome known (λ text. IsWrittenAs text (scenario_of (judged_in j))) × Judged j → IsRunFault (scenario_of v) f → IsPerformed known (Err f)
 fault_performed known j v f same judged is =
     let here = subst (λ j. IfSome known (λ text. IsWrittenAs text (scenario_of (judged_in j))) × Judged j) same judged in
-    fault_in known (scenario_of v) f here.0 here.1.0 is
+    fault_in known (scenario_of v) f here.0 (shared_paths_are_no_safer (scenario_of v) here.1.0) is

@@ -11,7 +11,7 @@ use Rattle.pr_unit.proofs.lemmas.Steps.Statuses.{steps_are_never_busy}
 use Rattle.pr_roles.specs.declared.item.Item.TheVariants.{Sent, Reset}
 use Rattle.pr_roles.specs.declared.how.How.TheVariants as how
 use Rattle.pr_roles.specs.Answers.{Answers, is_refusal, is_refused, refusals_by, most_refusals, may_come}
-use Rattle.pr_roles.specs.Worlds.{Guest, UnitReset, Happens, entry_of}
+use Rattle.pr_roles.specs.Worlds.{Guest, UnitReset, Fetched, Happens, entry_of}
 use Rattle.pr_roles.specs.Laws.{is_same_refusal, is_refused_in, RefusalsAreCounted, RefusalsAreDeclared}
 
 -- the status tells how a command was answered
@@ -37,6 +37,7 @@ refused_more s w (Guest g wire other) v sends h how =
     ∙ ap (λ b. refusals_by w.history h how + cond (g == h && b) 1 0) (told how other w.unit g sends.request sends.reply sends.unit sends.answer)
 refused_more s w UnitReset v resets h how =
     ap (λ (x : World). refusals_by x.history h how) resets.world ∙ sum_by_push (λ x. cond (is_refused h how x) 1 0) w.history Reset
+refused_more s w (Fetched g code) v fetched h how = let same = ap (λ (x : World). refusals_by x.history h how) fetched.world in omega (arith, same)
 
 run_counted : (s : Scenario) (w : World) (es : List Event) (v : World) → Run s w es v → (h : ℕ) (how : How)
     → refusals_by v.history h how ≡ refusals_by w.history h how + count_by (is_refused_in h how) es
@@ -72,6 +73,7 @@ refused_within : (s : Scenario) (w : World) (e : Event) (v : World) → Happens 
 refused_within s w (Host g other) v sends h how = one_more s w.history g h how other _ sends.room (refused_more s w (Host g other) v sends h how)
 refused_within s w (Guest g wire other) v sends h how = one_more s w.history g h how other _ sends.room (refused_more s w (Guest g wire other) v sends h how)
 refused_within s w UnitReset v resets h how = λ within. let more = refused_more s w UnitReset v resets h how in omega (arith, more, within)
+refused_within s w (Fetched g code) v fetched h how = λ within. let more = refused_more s w (Fetched g code) v fetched h how in omega (arith, more, within)
 
 run_within : (s : Scenario) (w : World) (es : List Event) (v : World) → Run s w es v → (h : ℕ) (how : How)
     → refusals_by w.history h how ≤ most_refusals s h how → refusals_by v.history h how ≤ most_refusals s h how

@@ -8,7 +8,7 @@ use Rattle.pr_cdb.specs.Spelling.{spelling}
 use Rattle.pr_roles.specs.declared.limits.TheConstants.{MOST_RESETS}
 use Rattle.pr_roles.specs.declared.item.Item.TheVariants.{Sent, Reset}
 use Rattle.pr_roles.specs.Fitting.{are_resets}
-use Rattle.pr_roles.specs.Worlds.{Guest, UnitReset, Happens, entry_of, is_reset, resets_in}
+use Rattle.pr_roles.specs.Worlds.{Guest, UnitReset, Fetched, Happens, entry_of, is_reset, resets_in}
 use Rattle.pr_roles.specs.Laws.{is_reset_event, ResetsAreCounted, ResetsAreDeclared, FirstVersionHasNoReset}
 
 pub resets-cons : (e : Item) (es : List Item) → resets_in (e ∷ es) ≡ cond (is_reset e) 1 0 + resets_in es
@@ -25,6 +25,7 @@ pub resets_more : (s : Scenario) (w : World) (e : Event) (v : World) → Happens
 resets_more s w (Host g other) v sends = ap (λ (x : World). resets_in x.history) sends.world ∙ resets-push w.history (Sent (entry_of g (spelling sends.command) sends.reply))
 resets_more s w (Guest g wire other) v sends = ap (λ (x : World). resets_in x.history) sends.world ∙ resets-push w.history (Sent (entry_of g wire sends.reply))
 resets_more s w UnitReset v resets = ap (λ (x : World). resets_in x.history) resets.world ∙ resets-push w.history Reset
+resets_more s w (Fetched h code) v fetched = let same = ap (λ (x : World). resets_in x.history) fetched.world in omega (arith, same)
 
 run_counted : (s : Scenario) (w : World) (es : List Event) (v : World) → Run s w es v → resets_in v.history ≡ resets_in w.history + count_by is_reset_event es
 run_counted s w [] v run = let same = ap (λ (x : World). resets_in x.history) run in omega (arith, same)

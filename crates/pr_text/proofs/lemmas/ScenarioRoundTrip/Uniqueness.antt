@@ -82,19 +82,14 @@ nexuses_same [] [] e = refl
 nexuses_same (m ∷ ms) (n ∷ ns) e = let first = nexus_same m n (head_same _ _ _ _ e) in let rest = nexuses_same ms ns (tail_same _ _ _ _ e) in cc
 nexuses_same _ _ e = cc
 
-scenario_same : (s t : Scenario) → s.version ≡ t.version → s.keys ≡ t.keys → s.reservations ≡ t.reservations → s.generation ≡ t.generation → s.resets ≡ t.resets → s.nexuses ≡ t.nexuses → s ≡ t
-scenario_same s t v a b c r d =
-    ap (λ x. record { version = x; keys = s.keys; reservations = s.reservations; generation = s.generation; resets = s.resets; nexuses = s.nexuses }) v
-    ∙ (ap (λ x. record { version = t.version; keys = x; reservations = s.reservations; generation = s.generation; resets = s.resets; nexuses = s.nexuses }) a
-    ∙ (ap (λ x. record { version = t.version; keys = t.keys; reservations = x; generation = s.generation; resets = s.resets; nexuses = s.nexuses }) b
-    ∙ (ap (λ x. record { version = t.version; keys = t.keys; reservations = t.reservations; generation = x; resets = s.resets; nexuses = s.nexuses }) c
-    ∙ (ap (λ x. record { version = t.version; keys = t.keys; reservations = t.reservations; generation = t.generation; resets = x; nexuses = s.nexuses }) r
-    ∙ ap (λ x. record { version = t.version; keys = t.keys; reservations = t.reservations; generation = t.generation; resets = t.resets; nexuses = x }) d))))
+scenario_same : (s t : Scenario) → s.version ≡ t.version → s.keys ≡ t.keys → s.reservations ≡ t.reservations → s.generation ≡ t.generation → s.resets ≡ t.resets
+    → ((h : ℕ) → s.shared h ≡ t.shared h) → s.nexuses ≡ t.nexuses → s ≡ t
+scenario_same s t v a b c r f d = λ i. record { version = v i; keys = a i; reservations = b i; generation = c i; resets = r i; shared = λ h. f h i; nexuses = d i }
 
 declared_same : (d : Declared) (s t : Scenario) → IsDeclaredBy d s → IsDeclaredBy d t → s ≡ t
 declared_same d s t p q =
     scenario_same s t (p.version ∙ sym q.version) (p.keys ∙ sym q.keys) (p.reservations ∙ sym q.reservations) (p.generation ∙ sym q.generation) (p.resets ∙ sym q.resets)
-    (nexuses_same s.nexuses t.nexuses (p.nexuses ∙ sym q.nexuses))
+    (λ h. p.alone h ∙ sym (q.alone h)) (nexuses_same s.nexuses t.nexuses (p.nexuses ∙ sym q.nexuses))
 
 along : (d e : Declared) (s t : Scenario) → d ≡ e → IsDeclaredBy d s → IsDeclaredBy e t → s ≡ t
 along d e s t same p q = declared_same d s t p (subst (λ x. IsDeclaredBy x t) (sym same) q)

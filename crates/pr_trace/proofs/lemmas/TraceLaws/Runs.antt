@@ -21,7 +21,7 @@ use Rattle.pr_unit.specs.UnitStates.{UnitState, IsWellFormed, is_pending}
 use Rattle.pr_unit.specs.Attentions.{is_attention}
 use Rattle.pr_unit.proofs.lemmas.Attentions.Resets.{well_formed-reset}
 use Rattle.pr_unit.proofs.lemmas.Steps.QuietSteps.{quiet_steps}
-use Rattle.pr_unit.proofs.lemmas.Steps.WellFormedSteps.{hosts-step, well_formed-step}
+use Rattle.pr_unit.proofs.lemmas.Steps.WellFormedSteps.{hosts-step, well_formed-reported, well_formed-step}
 use Rattle.pr_script.specs.Grammar.{is_declared, is_written, is_written_key}
 use Rattle.pr_script.specs.Scripts.{Configuration, sends, repeats, breaks, stops as stops_with, statement, mark, ready, standing_of_items}
 use Rattle.pr_roles.specs.declared.how.How.{How}
@@ -30,7 +30,7 @@ use Rattle.pr_roles.specs.declared.item.Item.TheVariants.{Sent, Reset}
 use Rattle.pr_roles.specs.Answers.{Answers, may_come}
 use Rattle.pr_roles.specs.Scenarios.{Task, task}
 use Rattle.pr_roles.specs.Starts.{IsAllowedStart}
-use Rattle.pr_roles.specs.Worlds.{World, Event, Host, Guest, UnitReset, Happens, Run, Control, Going, Trapped, Free, control, control_of, control_after, after, standing_of, entry_of, world_from, is_guest_task}
+use Rattle.pr_roles.specs.Worlds.{World, Event, Host, Guest, UnitReset, Fetched, Happens, Run, Control, Going, Trapped, Free, control, control_of, control_after, after, standing_of, entry_of, world_from, is_guest_task}
 use Rattle.pr_roles.proofs.lemmas.FirstStarts.Existence.{declared_key}
 use Rattle.pr_roles.proofs.lemmas.Laws.FirstVersion.{first_version_is_plain}
 use Rattle.pr_roles.proofs.lemmas.Starts.AllowedStarts.{counted, each_nexus}
@@ -256,6 +256,13 @@ happens s fits w UnitReset v resets underway = subst (IsUnderway s) (sym resets.
   where
     later : 2 ≤ s.version → nat_le 2 s.version ≡ true
     later two = grind (arith, nat_tests, two)
+happens s fits w (Fetched h code) v fetched underway = subst (IsUnderway s) (sym fetched.world) (record {
+  formed = well_formed-reported w.unit h code underway.formed;
+  hosts = underway.hosts;
+  controls = underway.controls;
+  written = underway.written;
+  items = underway.items;
+})
 
 run_underway : (s : Scenario) → Fits s → (w : World) (es : List Event) (v : World) → Run s w es v → IsUnderway s w → IsUnderway s v
 run_underway s fits w [] v run underway = subst (IsUnderway s) (sym run) underway

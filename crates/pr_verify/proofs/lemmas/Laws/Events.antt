@@ -7,10 +7,11 @@ use Rattle.pr_cdb.proofs.lemmas.FieldRanges.{reads_fit}
 use Rattle.pr_script.specs.Scripts.{ready, first_configuration}
 use Rattle.pr_roles.specs.declared.item.Item.{Item}
 use Rattle.pr_roles.specs.Scenarios.{Planned}
-use Rattle.pr_roles.specs.Worlds.{Going, Free, Event, Guest, UnitReset, HostSends, GuestSends, IsReset, Happens, Run, after_reset, control_after, going_or_trapped, is_guest_task, commands_by, standing_of, entry_of, may_reset, after}
+use Rattle.pr_roles.specs.Worlds.{Going, Free, Event, Guest, UnitReset, Fetched, HostSends, GuestSends, IsReset, IsFetched, Happens, Run, after_reset, after_fetch, control_after, going_or_trapped, is_guest_task, commands_by, standing_of, entry_of, may_reset, after}
 use Rattle.pr_roles.specs.Permits.{is_permitted}
 use Rattle.pr_roles.specs.Safety.{KeepsRole}
 use Rattle.pr_unit.specs.Replies.{is_good}
+use Rattle.pr_unit.specs.UnitStates.{is_pending}
 use Rattle.pr_roles.proofs.lemmas.Worlds.Controls.{there, at_start as begins, nobody_at_start, control_other, control_own}
 use Rattle.pr_roles.proofs.lemmas.Worlds.Counts.{sent_other, sent_own, sent_reset}
 use Rattle.pr_verify.proofs.lemmas.Laws.HostInvariants.{IsTurn, IsTaken, IsInvariant, HaveInvariants}
@@ -166,12 +167,28 @@ reset_keeps s Holds w h room _ free = free
 reset_kept : (s : Scenario) (Holds : ℕ → Configuration → List Item → UnitState → Type 0) (w v : World) → IsReset s w v → IsKept s Holds w → IsKept s Holds v
 reset_kept s Holds w v happens kept = subst (IsKept s Holds) (sym happens.world) (λ h. reset_keeps s Holds w h happens.room (task s h) (kept h))
 
+-- ---- a fetch
+
+fetch_keeps : (s : Scenario) (Holds : ℕ → Configuration → List Item → UnitState → Type 0) (w : World) (h g code : ℕ) → IsTrue (is_pending w.unit g code) → (t : Option Task) → IsKeptBy t s Holds w h → IsKeptBy t s Holds (after_fetch w g code) h
+fetch_keeps s Holds w h g code pending (Some (Scripted script budget)) course = record {
+  invariant = course.invariant;
+  rest = course.rest;
+  going = course.going;
+  holds = course.invariant.fetched course.rest w.history w.unit g code course.holds pending;
+  within = course.within;
+}
+fetch_keeps s Holds w h g code pending _ free = free
+
+fetch_kept : (s : Scenario) (Holds : ℕ → Configuration → List Item → UnitState → Type 0) (w : World) (g code : ℕ) (v : World) → IsFetched s w g code v → IsKept s Holds w → IsKept s Holds v
+fetch_kept s Holds w g code v happens kept = subst (IsKept s Holds) (sym happens.world) (λ h. fetch_keeps s Holds w h g code happens.pending (task s h) (kept h))
+
 -- ---- runs
 
 event_kept : (s : Scenario) (Holds : ℕ → Configuration → List Item → UnitState → Type 0) (w : World) (e : Event) (v : World) → Happens s w e v → IsKept s Holds w → IsKept s Holds v
 event_kept s Holds w (Host h k) v happens kept = host_kept s Holds w h k v happens kept
 event_kept s Holds w (Guest g wire k) v happens kept = guest_kept s Holds w g wire k v happens kept
 event_kept s Holds w UnitReset v happens kept = reset_kept s Holds w v happens kept
+event_kept s Holds w (Fetched g code) v happens kept = fetch_kept s Holds w g code v happens kept
 
 pub run_kept : (s : Scenario) (Holds : ℕ → Configuration → List Item → UnitState → Type 0) (w : World) (es : List Event) (v : World) → Run s w es v → IsKept s Holds w → IsKept s Holds v
 run_kept s Holds w [] v run kept = subst (IsKept s Holds) (sym run) kept

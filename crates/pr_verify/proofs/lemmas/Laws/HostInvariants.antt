@@ -8,7 +8,7 @@ use Rattle.pr_cdb.specs.declared.reply.Reply.{Reply}
 use Rattle.pr_cdb.specs.declared.wire.Request.TheVariants.{Plain}
 use Rattle.pr_cdb.specs.Ranges.{Fits}
 use Rattle.pr_cdb.specs.Spelling.{spelling}
-use Rattle.pr_unit.specs.UnitStates.{UnitState, reset}
+use Rattle.pr_unit.specs.UnitStates.{UnitState, is_pending, after_report, reset}
 use Rattle.pr_unit.specs.Replies.{is_good}
 use Rattle.pr_script.specs.Scripts.{Stmts, Configuration, ready, standing_of_items, first_configuration}
 use Rattle.pr_script.specs.Takes.{take}
@@ -42,7 +42,7 @@ pub record IsTaken (s : Scenario) (h budget : ℕ) (Holds : Configuration → Li
   pub holds : Holds rest (history ++ Sent (entry_of h (spelling c) r) ∷ []) v
 
 -- A reset comes at most as often as the scenario has it. Of another's command only this is known: to the host it is one that
--- ends GOOD and that the other's role permits, or none.
+-- ends GOOD and that the other's role permits, or none. Any attention may be fetched: no script hears of that.
 pub record IsInvariant (s : Scenario) (h : ℕ) (script : Stmts) (budget : ℕ) (Holds : Configuration → List Item → UnitState → Type 0) : Type 0 where
   pub start : (u : UnitState) → IsAllowedStart s u → Holds (first_configuration script) [] u
   pub fields : (l : Configuration) (history : List Item) (u : UnitState) (line : ℕ) (c : Command) → Holds l history u → standing_of_items l ≡ Some (ready line c) → Fits c
@@ -50,6 +50,7 @@ pub record IsInvariant (s : Scenario) (h : ℕ) (script : Stmts) (budget : ℕ) 
   pub others : (l : Configuration) (history : List Item) (u : UnitState) (e : Entry) (v : UnitState) → Holds l history u → e.host ≢ h → e.host < length s.nexuses
       → (v ≡ u) ⊎ IsDone (role s e.host) e.host u v → Holds l (history ++ Sent e ∷ []) v
   pub resets : (l : Configuration) (history : List Item) (u : UnitState) → Holds l history u → IsTrue (may_reset s history) → Holds l (history ++ Reset ∷ []) (reset u)
+  pub fetched : (l : Configuration) (history : List Item) (u : UnitState) (g code : ℕ) → Holds l history u → IsTrue (is_pending u g code) → Holds l history (after_report u g code)
 
 -- for each scripted host one
 abbrev pub HaveInvariants : (s : Scenario) → (ℕ → Configuration → List Item → UnitState → Type 0) → Type 0

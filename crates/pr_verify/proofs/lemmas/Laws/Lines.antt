@@ -1,11 +1,11 @@
 -- What is said of each line of a script, by a view or by anything else, is an invariant of its host, where it is true of what sound
 -- and fitting outlines ask. Outlines are the case of one view a line.
-use Rattle.pr_verify.proofs.Common.{◌≡◌, ℕ, ◌+◌, ◌<◌, ◌≤◌, true, ◌≢◌, ◌⊎◌, List, [], ◌∷◌, length, IsTrue, nat_lt, ◌==◌, Some, None, Contains, Option, sym, refl, ap, ◌∙◌, subst, inl, inr, arith, false≢true, Command, Reply, Plain, Step, UnitState, cost_of_all, Stmts, Configuration, Answers, Answered, refusals_of, command_permitted, role, Scenario, IsAllowedStart, How, IsDone, Becomes, by_another, by_reset, IsShownAt, at_start, by_itself, by_others, HasOutline, SendsFit, Place, places_of, first_lines, follows}
+use Rattle.pr_verify.proofs.Common.{◌≡◌, ℕ, ◌+◌, ◌<◌, ◌≤◌, true, ◌≢◌, ◌⊎◌, List, [], ◌∷◌, length, IsTrue, nat_lt, ◌==◌, Some, None, Contains, Option, sym, refl, ap, ◌∙◌, subst, inl, inr, arith, false≢true, Command, Reply, Plain, Step, UnitState, cost_of_all, Stmts, Configuration, Answers, Answered, refusals_of, command_permitted, role, Scenario, IsAllowedStart, How, IsDone, Becomes, by_another, by_reset, HasOutline, SendsFit, Place, places_of, first_lines, follows}
 use Rattle.std.specs.Prelude.{IsSome, not}
 use Rattle.std.proofs.lemmas.Bool.Decides.{nat_tests}
 use Rattle.pr_cdb.specs.Ranges.{Fits}
 use Rattle.pr_cdb.specs.Spelling.{spelling}
-use Rattle.pr_unit.specs.UnitStates.{reset}
+use Rattle.pr_unit.specs.UnitStates.{is_pending, after_report, reset}
 use Rattle.pr_unit.specs.Replies.{is_good}
 use Rattle.pr_roles.specs.declared.how.How.TheVariants as how
 use Rattle.pr_roles.specs.declared.item.Item.{Item}
@@ -17,6 +17,7 @@ use Rattle.pr_script.specs.Costs.{commands}
 use Rattle.pr_script.proofs.lemmas.Costs.Budgets.{cost_bounds_sends, IsWithinCost, within_cost_taken}
 use Rattle.pr_roles.proofs.lemmas.Worlds.Counts.{sent_other, sent_own, sent_reset}
 use Rattle.pr_verify.proofs.lemmas.Laws.HostInvariants.{IsTurn, IsTaken, IsInvariant}
+use Rattle.pr_verify.proofs.lemmas.Laws.Eased.{IsShownEased, start_shown, own_shown, others_shown, fetched_shown, arms_eased, role_eased}
 use Rattle.pr_verify.proofs.lemmas.Places.Successors.{Leads, leads_begun}
 use Rattle.pr_verify.proofs.lemmas.Places.Replies.{LeadsOn, IsReadyAt, ready_at}
 
@@ -27,6 +28,7 @@ pub record IsSoundBy (s : Scenario) (h : ℕ) (script : Stmts) (Shown : ℕ → 
   pub own : (p : Place) (line : ℕ) (u : UnitState) (r : Reply) (v : UnitState) (next : List ℕ) → Contains (places_of script) p → Shown p.line u → Answered (refusals_of s h) u h (Plain p.command) r v
       → follows p r ≡ Some next → Contains next line → Shown line v
   pub others : (line : ℕ) (u v : UnitState) → Shown line u → Becomes s h u v → Shown line v
+  pub fetched : (line : ℕ) (u : UnitState) (g code : ℕ) → Shown line u → IsTrue (is_pending u g code) → Shown line (after_report u g code)
 
 pub record IsFittingBy (s : Scenario) (h : ℕ) (script : Stmts) (budget : ℕ) (Shown : ℕ → UnitState → Type 0) : Type 0 where
   pub arms : (p : Place) (u : UnitState) (r : Reply) (v : UnitState) → Contains (places_of script) p → Shown p.line u → Answered (refusals_of s h) u h (Plain p.command) r v → IsSome (follows p r)
@@ -148,24 +150,23 @@ module _ (s : Scenario) (h : ℕ) (script : Stmts) (budget : ℕ) (Shown : ℕ �
       shown = λ line here. sound.others line u (reset u) (x.shown line here) (by_reset (some_left (resets_in history) s.resets room) refl);
       spent = subst (λ n. IsWithinCost n l (cost_of_all script)) (sym (sent_reset history h)) x.spent;
     };
+    fetched = λ l history u g code x pending. record {
+      lines = x.lines;
+      leads = x.leads;
+      shown = λ line here. sound.fetched line u g code (x.shown line here) pending;
+      spent = x.spent;
+    };
   }
 
 -- ---- one view a line: the outlines of the verdict
 
-pub outline_is_invariant : (s : Scenario) (h : ℕ) (script : Stmts) (budget : ℕ) → SendsFit script → (o : HasOutline s h script budget) → IsInvariant s h script budget (HoldsAtLines script h (IsShownAt o.outline))
+-- What an outline shows however much of what is pending for its host is gone is an invariant: so attentions may vanish.
+pub outline_is_invariant : (s : Scenario) (h : ℕ) (script : Stmts) (budget : ℕ) → SendsFit script → (o : HasOutline s h script budget) → IsInvariant s h script budget (HoldsAtLines script h (IsShownEased s h script budget o))
 outline_is_invariant s h script budget fields o =
-    subst (λ g. IsInvariant s g script budget (HoldsAtLines script g (IsShownAt o.outline))) o.host (lines_are_invariant s o.outline.host script budget (IsShownAt o.outline) sound fitting fields)
+    subst (λ g. IsInvariant s g script budget (HoldsAtLines script g (IsShownEased s h script budget o))) o.host (lines_are_invariant s o.outline.host script budget (IsShownEased s h script budget o) sound fitting fields)
   where
-    sound : IsSoundBy s o.outline.host script (IsShownAt o.outline)
-    sound = record {
-      start = λ line u allowed first. o.sound.shows line u (at_start (record { allowed = allowed; first = first }));
-      own = λ p line u r v next listed shown answer follows there. o.sound.shows line v (by_itself p listed (record { from = u; shown = shown; reply = r; answer = answer; next = next; follows = follows; there = there }));
-      others = λ line u v shown becomes. o.sound.shows line v (by_others (record { from = u; shown = shown; becomes = becomes }));
-    }
+    sound : IsSoundBy s o.outline.host script (IsShownEased s h script budget o)
+    sound = record { start = start_shown s h script budget o; own = own_shown s h script budget o; others = others_shown s h script budget o; fetched = fetched_shown s h script budget o }
 
-    fitting : IsFittingBy s o.outline.host script budget (IsShownAt o.outline)
-    fitting = record {
-      arms = λ p u r v listed shown answer. o.fitting.arms p listed u r v shown answer;
-      role = λ p u r v listed shown step good. o.fitting.role p listed u r v shown step good;
-      cost = o.fitting.cost;
-    }
+    fitting : IsFittingBy s o.outline.host script budget (IsShownEased s h script budget o)
+    fitting = record { arms = arms_eased s h script budget o; role = role_eased s h script budget o; cost = o.fitting.cost }

@@ -2,7 +2,7 @@
 use Rattle.pr_verify.proofs.Common.{◌≡◌, ℕ, ◌+◌, ◌<◌, ◌≤◌, true, false, List, map, length, IfErr, Some, None, Ok, Err, Option, Result, sym, refl, ap, ◌∙◌, subst, cost_of_all, Stmts, script_of, Task, Scripted, task, Scenario, IsSafe, IsLeastSound, Outline, HasOutline, OnScripted, HaveOutlines, SendsFit, places_of, IsScripted, Refusal, Spot, place_of, below_more}
 use Rattle.std.specs.Option.{option_or, IfNone, IfSome}
 use Rattle.std.specs.Result.{OnOk, result_err}
-use Rattle.pr_roles.specs.Scenarios.{Planned}
+use Rattle.pr_roles.specs.Scenarios.{Planned, on_shared_paths}
 use Rattle.pr_script.specs.declared.script.Script.{Script}
 use Rattle.pr_verify.specs.Laws.{OutlinesMakeSafe}
 use Rattle.pr_roles.specs.Tasks.{has_script}
@@ -74,10 +74,10 @@ module _ (s : Scenario) where
         at None all = all.0
         at (Some r) first = tt
 
-    pub safe_all : OutlinesMakeSafe → IfNone refusal (IsSafe s)
+    pub safe_all : OutlinesMakeSafe → IfNone refusal (IsSafe (on_shared_paths s))
     safe_all make = at refusal judged
       where
-        at : (r : Option Refusal) → IsJudgementBefore s (length s.nexuses) r → IfNone r (IsSafe s)
+        at : (r : Option Refusal) → IsJudgementBefore s (length s.nexuses) r → IfNone r (IsSafe (on_shared_paths s))
         at None all = make s all.1 all.0
         at (Some r) first = tt
 

@@ -1,6 +1,6 @@
 -- What safety and legality say of a replay.
 use Rattle.pr_roles.proofs.lemmas.SafeRuns.NextEvents.{safe_sends_are_fine}
-use Rattle.pr_world.proofs.Common.{◌≡◌, ℕ, zero, suc, ◌<◌, ◌≤◌, false, List, [], ◌∷◌, ◌++◌, map, length, IsTrue, slice_get, Some, sym, refl, ap, ◌∙◌, subst, arith, range_with_len, option_map_or, false≢true, nat_tests, get_or_past, spelling, UnitState, Stmts, IsLegal, IsSafe, Scripted, task, Scenario, Control, Free, World, entry_of, Event, Host, Guest, UnitReset, is_guest_task, Happens, commands_by, is_trapped, Entry, Item, Sent, Reset, Step, Reaches}
+use Rattle.pr_world.proofs.Common.{◌≡◌, ℕ, zero, suc, ◌<◌, ◌≤◌, false, List, [], ◌∷◌, ◌++◌, map, length, IsTrue, slice_get, Some, sym, refl, ap, ◌∙◌, subst, arith, range_with_len, option_map_or, false≢true, nat_tests, get_or_past, spelling, UnitState, Stmts, IsLegal, IsSafe, Scripted, task, Scenario, Control, Free, World, entry_of, Event, Host, Guest, UnitReset, Fetched, is_guest_task, Happens, commands_by, is_trapped, Entry, Item, Sent, Reset, Step, Reaches}
 use Rattle.std.proofs.Common.{◌||◌, zero-add, slice_index}
 use Rattle.std.specs.List.{list_any}
 use Rattle.std.proofs.lemmas.List.{append_assoc}
@@ -11,7 +11,7 @@ use Rattle.pr_world.specs.declared.replaying.Replayed.{Replayed}
 use Rattle.pr_audit.specs.Ends.{is_trapped_end}
 use Rattle.pr_world.specs.Laws.{IsPermittedAfter}
 use Rattle.pr_world.specs.Replays.{IsReplayed}
-use Rattle.pr_audit.proofs.lemmas.Auditing.Histories.{last_same, legal_before, reached_before}
+use Rattle.pr_audit.proofs.lemmas.Auditing.Histories.{last_same, legal_before, one_longer, reached_before}
 
 pub replay_is_legal : (s : Scenario) (steps : List Step) (r : Replayed) (x : IsReplayed s steps r) → IsLegal s x.start r.history.items
 replay_is_legal s steps r x = (x.events, x.last.world, x.reached, sym x.outcome.history)
@@ -74,6 +74,7 @@ permitted_after s u before e w v (Guest g wire so) safe allowed reaches sends ad
 permitted_after s u before e w v UnitReset safe allowed reaches resets added script budget is =
     let same : Reset ≡ Sent e = (last_same w.history w.history Reset (Sent e) (sym (ap (λ x. x.history) resets.world) ∙ added)).1 in
     cc
+permitted_after s u before e w v (Fetched h code) safe allowed reaches fetched added script budget is = absurd (one_longer w.history (Sent e) (sym (ap (λ x. x.history) fetched.world) ∙ added))
 
 pub safe_roles : (s : Scenario) (steps : List Step) (r : Replayed) → IsSafe s → (x : IsReplayed s steps r) → (before : List Item) (e : Entry) (rest : List Item) → r.history.items ≡ before ++ Sent e ∷ rest
     → (script : Stmts) (budget : ℕ) → task s e.host ≡ Some (Scripted script budget) → IsPermittedAfter s x.start before e
@@ -81,4 +82,4 @@ safe_roles s steps r safe x before e rest is =
     let one : before ++ Sent e ∷ rest ≡ (before ++ Sent e ∷ []) ++ rest = sym (append_assoc before (Sent e ∷ []) rest) in
     let more = legal_before s x.start (before ++ Sent e ∷ []) rest (subst (IsLegal s x.start) (is ∙ one) (replay_is_legal s steps r x)) in
     let last = reached_before s x.start before (Sent e) more.1 (record { events = more.0; run = more.2; items = more.3 }) in
-    permitted_after s x.start before e last.before more.1 last.adds.event safe x.allowed last.reaches last.adds.happens last.adds.added
+    permitted_after s x.start before e last.before last.after last.adds.event safe x.allowed last.reaches last.adds.happens last.adds.added

@@ -1,0 +1,5 @@
+use Rattle.pr_commands.proofs.lemmas.Runs.Outcomes.{run_performed}
+use Rattle.pr_commands.proofs.runs.perform.Goals as goal
+
+pub returns-in_ok-ran-in-Ok-clause-performed : goal.returns-in_ok-ran-in-Ok-clause-performed
+returns-in_ok-ran-in-Ok-clause-performed g c = run_performed _ _ _ _ c.in-Ok.is c.in_ok-verified.ensures.judged c.in_ok-ran-in-Ok.ensures.same c.in_ok-ran-in-Ok.ensures.comes

@@ -1,0 +1,5 @@
+use Rattle.pr_roles.proofs.lemmas.SafeRuns.SharedPaths.{shared_paths_are_no_safer}
+use Rattle.pr_roles.proofs.laws.shared_paths_are_no_safer.Goals as goal
+
+pub returns : goal.returns
+returns c = shared_paths_are_no_safer
