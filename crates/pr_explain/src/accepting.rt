@@ -20,9 +20,9 @@ From every start that the scenario declares, and whatever order its commands com
   no script sends more commands than its budget,
   and each command of a script that ends GOOD is one that its role permits at that moment.
 So it is where the disk does as docs/MODEL.md says, guests keep their roles, commands reach the disk
-one at a time, BUSY, TASK SET FULL and resets come no more often than the scenario says, and nothing
-but a script takes unit attentions from its path. It does not say that a script comes to its end, or
-that somebody gets the reservation, or is fenced.
+one at a time, and BUSY, TASK SET FULL and resets come no more often than the scenario says. It
+holds also where somebody else on a host's path takes unit attentions away: that is proved. It does
+not say that a script comes to its end, or that somebody gets the reservation, or is fenced.
 
 ";
 

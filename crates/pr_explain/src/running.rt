@@ -71,7 +71,7 @@ fn put_safe<W: Write>(sheet: &mut Sheet<'_, W>, worlds: usize) -> Result<(), Wri
         &[Token::Number(worlds as u64)],
     )?;
     sheet.put(
-        b"It rests on what `accepted` rests on, and so on this: nothing but a script looks at the disk by its path. On Linux multipathd and the kernel do, and take unit attentions away (docs/VERDICTS.md).\n",
+        b"It rests on what `accepted` rests on, and on this besides: nothing but a script looks at the disk by its path. On Linux multipathd and the kernel do, and take unit attentions away (docs/VERDICTS.md).\n",
     )?;
     sheet.put(CONFLICTS_FIRST)?;
     sheet.put(
