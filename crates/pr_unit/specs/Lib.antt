@@ -10,4 +10,5 @@ pub mod Steps
 pub mod TakenSteps
 pub mod Follows
 pub mod Laws
+pub mod SharedPaths
 pub mod inside

@@ -2,3 +2,5 @@ pub mod Told
 pub mod UnitCodes
 pub mod Following
 pub mod Readiness
+pub mod SharedStates
+pub mod Ways

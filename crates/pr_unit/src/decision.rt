@@ -56,8 +56,8 @@ pub(crate) fn decide(
     }
 }
 
-// Bytes at fault never conflict.
-fn conflicts(registry: &Registry, host: u8, request: Request) -> bool
+/// Whether the request of the host conflicts with the reservation. Bytes at fault never do.
+pub(crate) fn conflicts(registry: &Registry, host: u8, request: Request) -> bool
     requires { host < registry.now.hosts }
     ensures { result ≡ conflicts registry.now host request }
 {

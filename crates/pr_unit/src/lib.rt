@@ -12,6 +12,7 @@ mod follows;
 mod laws;
 mod pending_table;
 mod reply;
+mod shared_paths;
 mod unit;
 
 pub use answers::report_of;

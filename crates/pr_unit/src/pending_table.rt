@@ -1,6 +1,6 @@
 //! The pending attentions of all hosts, as a table with a place for each.
 
-ghost use Rattle.std.specs.Prelude.{◌≡◌, ◌<◌, ◌≤◌, ℕ, true, IsNone, IfSome, ◌↔◌};
+ghost use Rattle.std.specs.Prelude.{◌≡◌, ◌<◌, ◌≤◌, ◌==◌, not, ℕ, true, IsNone, IfSome, ◌↔◌};
 ghost use Rattle.std.specs.FinSet as set;
 ghost use Rattle.pr_attention.specs.Attentions.{code_of};
 ghost use Rattle.pr_unit.specs.Attentions.{each_with, hosts_below};
@@ -60,6 +60,15 @@ pub(crate) fn remove(pendings: &mut [Pending; MOST_NEXUSES], host: u8, attention
 {
     let pending = &mut pendings[usize::from(host)];
     pending.remove(attention);
+}
+
+/// Takes whatever is pending away from the host.
+pub(crate) fn silence(pendings: &mut [Pending; MOST_NEXUSES], host: u8)
+    requires { host < MOST_NEXUSES }
+    ensures { table_pairs pendings.new ≡ set.retain (table_pairs pendings.old)
+        (λ p. not (p.0 == host)) }
+{
+    pendings[usize::from(host)] = Pending::new();
 }
 
 /// Makes the attention pending for each of the hosts.

@@ -12,6 +12,7 @@ use crate::conflicts::command_conflicts;
 use crate::decision::{decide, ends_good, fault};
 use crate::follows::follow;
 use crate::pending_table;
+use crate::shared_paths::follow_shared;
 use pr_attention::{Attention, Pending};
 use pr_cdb::codes::MOST_NEXUSES;
 use pr_cdb::{Bad, Command, Reply, Request, Sense, Wire, decode, in_range};
@@ -48,13 +49,15 @@ impl Unit {
     ghost use Rattle.pr_registry.specs.Tables.{empty_registry};
     ghost use Rattle.pr_cdb.specs.declared.wire.Request.TheVariants.{Plain};
     ghost use Rattle.pr_cdb.specs.declared.reply.Reply.{Reply};
-    ghost use Rattle.pr_unit.specs.UnitStates.{UnitState, IsWellFormed, is_pending, effect, reset};
+    ghost use Rattle.pr_attention.specs.Attentions.{code_of};
+    ghost use Rattle.pr_unit.specs.UnitStates.{UnitState, IsWellFormed, is_pending, after_report, effect, reset};
     ghost use Rattle.pr_unit.specs.Tables.{unit_of, quiet_unit};
     ghost use Rattle.pr_unit.specs.Replies.{is_good};
     ghost use Rattle.pr_unit.specs.Conduct.{command_conflicts, command_fault};
     ghost use Rattle.pr_unit.specs.Steps.{Step, decision};
     ghost use Rattle.pr_unit.specs.TakenSteps.{Executes, ends_good};
     ghost use Rattle.pr_unit.specs.Follows.{Follows};
+    ghost use Rattle.pr_unit.specs.SharedPaths.{FollowsShared, silenced};
 
     /// A unit of so many hosts with nothing registered, reserved or pending, and generation 0.
     pub fn new(hosts: u8) -> Self
@@ -180,6 +183,36 @@ impl Unit {
         }
     }
 
+    /// The same, where somebody else on the host's path may have been told of what was pending for the host: whether the unit may
+    /// answer so once some of that is gone. Where it may, it is in the state after that answer in which as much as can be is left.
+    pub fn follow_shared(&mut self, host: u8, wire: &Wire, reply: &Reply) -> bool
+        requires { host < self.old.registry.hosts }
+        ensures { FollowsShared self.old host (request_of_wire wire.now) reply.now result self.new }
+    {
+        match decode(&wire.cdb, &wire.params) {
+            Ok(request) => {
+                follow_shared(&mut self.registry, &mut self.pending, host, request, reply)
+            }
+            Err(_) => false,
+        }
+    }
+
+    /// Takes the attention away from the host, as where somebody else on its path is told of it.
+    pub fn fetch(&mut self, host: u8, attention: Attention)
+        requires { host < self.old.registry.hosts }
+        ensures { self.new ≡ after_report self.old host (code_of attention) }
+    {
+        pending_table::remove(&mut self.pending, host, attention);
+    }
+
+    /// Takes away whatever is pending for the host.
+    pub fn fetch_all(&mut self, host: u8)
+        requires { host < self.old.registry.hosts }
+        ensures { self.new ≡ silenced self.old host }
+    {
+        pending_table::silence(&mut self.pending, host);
+    }
+
     /// Resets the unit (SAM-5, 'Logical unit reset'): power on becomes pending for each host. Whatever else is pending,
     /// registrations, reservation and generation stay.
     pub fn reset(&mut self)
@@ -190,7 +223,7 @@ impl Unit {
 }
 
 // A place for each host, as many as [`MOST_NEXUSES`], with nothing pending for those that are not there.
-fn table_of(pendings: &[Pending]) -> [Pending; MOST_NEXUSES]
+pub(crate) fn table_of(pendings: &[Pending]) -> [Pending; MOST_NEXUSES]
     ensures value { table_pairs result ≡ table_pairs pendings.now }
     ensures members { (host code : ℕ) → set.contains (table_pairs result) (host, code) ≡ true
         → (host < length pendings.now) × IsTrue (is_attention code) }

@@ -1,5 +1,5 @@
 -- What sets of pending attentions contain.
-use Rattle.pr_unit.proofs.Common.{◌≡◌, ℕ, zero, suc, ◌+◌, ◌<◌, Bool, true, false, not, ◌&&◌, ◌||◌, List, [], ◌∷◌, length, if◌then◌else◌, nat_lt, ◌==◌, sym, refl, ap, ◌∙◌, arith, false≢true, MOST_NEXUSES, Codes, no_code, Pairs, place, table_pairs, each_with, pairs_where, or-false, inl, inr, ◌⊎◌, Hosts}
+use Rattle.pr_unit.proofs.Common.{◌≡◌, ℕ, zero, suc, ◌+◌, ◌<◌, Bool, true, false, not, ◌&&◌, ◌||◌, List, [], ◌∷◌, length, if◌then◌else◌, nat_lt, ◌==◌, sym, refl, ap, ◌∙◌, arith, false≢true, MOST_NEXUSES, Codes, no_code, contains-no_code, Pairs, place, table_pairs, each_with, pairs_where, or-false, inl, inr, ◌⊎◌, Hosts}
 use Rattle.std.proofs.Common.{◌≢◌, map, slice_index_or, slice_set, add-one, eqb-true, lt-ltb}
 use Rattle.std.specs.Ordering.{nat_cmp, eq_by_cmp, is_eq, ordering_then}
 use Rattle.std.specs.declared.cmp.Ordering.{Ordering}
@@ -11,7 +11,7 @@ use Rattle.std.specs.FinSet.{IsAntisymmetric, slice_cmp-IsAntisymmetric, nat_cmp
 use Rattle.std.specs.List.{list_any}
 use Rattle.std.proofs.lemmas.Bool.Decides.{eqb_tells}
 use Rattle.std.proofs.lemmas.List.{get_or-set_same, get_or-set_other}
-use Rattle.std.proofs.Math.Bool.{or_self, and-or_distrib_right, and-or_distrib_left, and-false}
+use Rattle.std.proofs.Math.Bool.{or_self, and-or_distrib_right, and-or_distrib_left, and-false, and-true}
 use Rattle.pr_attention.proofs.lemmas.Sets.{contains-insert_code, contains-remove_code}
 use Rattle.pr_sets.proofs.lemmas.Members.{lt-suc, lt-zero}
 use Rattle.pr_unit.specs.inside.Told.{AreBelow}
@@ -170,6 +170,19 @@ table_pairs-remove table h codes code whole small is =
         ap (λ b. not (p.1 == code) && b) (sym (contains-table_pairs_in table h p.1 small))
         ∙ ap (λ q. not (p.1 == code) && set.contains (table_pairs table) (q, p.1)) (sym (eqb-true p.0 h e))
     at p false e = refl
+
+-- with nothing at the place of a host
+pub table_pairs-silence : (table : List Codes) (h : ℕ) → length table ≡ MOST_NEXUSES → h < MOST_NEXUSES
+    → table_pairs (slice_set table h no_code) ≡ set.retain (table_pairs table) (λ p. not (p.0 == h))
+table_pairs-silence table h whole small =
+    same_pairs _ _ (λ p. contains-table_pairs-set table h no_code p.0 p.1 whole small
+    ∙ ap (λ b. if p.0 == h then b else set.contains (table_pairs table) p) (contains-no_code p.1)
+    ∙ at (p.0 == h) (set.contains (table_pairs table) p)
+    ∙ sym (contains-retain-pair (table_pairs table) (λ x. not (x == h)) p))
+  where
+    at : (b c : Bool) → (if b then false else c) ≡ (c && not b)
+    at true c = sym (and-false c)
+    at false c = sym (and-true c)
 
 -- ---- hosts that are told
 

@@ -2,6 +2,7 @@
 use Rattle.pr_unit.proofs.Common.{◌≡◌, ℕ, Bool, true, false, refl, ◌&&◌, ◌||◌, ◌==◌, sym, ap, ◌∙◌, reservations_preempted, reservations_released, registrations_preempted, Pairs, each_with, no_change, contains-nobody, pending_after}
 use Rattle.std.specs.FinSet as set
 use Rattle.pr_registry.specs.declared.change.Change.{Change}
+use Rattle.pr_unit.specs.SharedPaths.{NoMore}
 use Rattle.pr_unit.proofs.lemmas.Attentions.Pairs.{same_pairs, contains-union-pairs, contains-each_with}
 
 -- a code is pending: it was, or one of the three was told
@@ -48,3 +49,16 @@ told_alike from to t h code same =
     contains-told to t h code
     ∙ ap (λ was. is_pending_after was (set.contains t.told_03 h) (set.contains t.told_04 h) (set.contains t.told_05 h) code) same
     ∙ sym (contains-told from t h code)
+
+more_after : (was more a b c : Bool) (code : ℕ) → (was ≡ true → more ≡ true) → is_pending_after was a b c code ≡ true → is_pending_after more a b c code ≡ true
+more_after true more a b c code same is = ap (λ x. is_pending_after x a b c code) (same refl)
+more_after false true a b c code same is = refl
+more_after false false a b c code same is = is
+
+-- where no more is pending before a change tells somebody, no more is behind it
+pub told_no_more : (shared : Bool) (from to : Pairs) (t : Change) (h code : ℕ) → NoMore shared (set.contains from (h, code)) (set.contains to (h, code))
+    → NoMore shared (set.contains (pending_after from t) (h, code)) (set.contains (pending_after to t) (h, code))
+told_no_more false from to t h code same = told_alike to from t h code same
+told_no_more true from to t h code more = λ is.
+    contains-told to t h code
+    ∙ more_after (set.contains from (h, code)) (set.contains to (h, code)) (set.contains t.told_03 h) (set.contains t.told_04 h) (set.contains t.told_05 h) code more (sym (contains-told from t h code) ∙ is)

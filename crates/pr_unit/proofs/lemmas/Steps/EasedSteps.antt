@@ -10,12 +10,13 @@ use Rattle.pr_unit.specs.Attentions.{attentions}
 use Rattle.pr_unit.specs.Replies.{report}
 use Rattle.pr_unit.specs.Steps.{IsDone}
 use Rattle.pr_unit.specs.Laws.{IsQuiet}
+use Rattle.pr_unit.specs.SharedPaths.{IsFromLess}
 use Rattle.pr_unit.proofs.lemmas.Attentions.Pairs.{contains-remove-pair, contains-insert-pair, same_pairs}
 use Rattle.pr_unit.proofs.lemmas.Steps.QuietSteps.{same-quiet, reported-quiet, reported-gone}
 use Rattle.pr_unit.proofs.lemmas.UnitStates.Effects.{own_pending}
 
 -- one of the list has it
-one_of : (p : ℕ → Bool) (code : ℕ) (xs : List ℕ) → list_any (λ a. code == a) xs ≡ true → p code ≡ true → list_any p xs ≡ true
+pub one_of : (p : ℕ → Bool) (code : ℕ) (xs : List ℕ) → list_any (λ a. code == a) xs ≡ true → p code ≡ true → list_any p xs ≡ true
 one_of p code xs there is =
     let found = Any-from_list_any (λ a. code == a) xs there in
     list_any-from_Any p xs (found.0, found.1, found.2, found.3, ap p (sym (eqb-true code found.1 found.4)) ∙ is)
@@ -69,17 +70,12 @@ gone_reported u w h code less = false_from_ne_true (is_pending w h code) (λ is.
 
 -- ---- by what decides
 
-pub record IsFromLess (u : UnitState) (h : ℕ) (q : Request) (r : Reply) (w : UnitState) : Type 0 where
-  pub from : UnitState
-  pub less : IsQuiet u h from
-  pub step : Step from h q r w
-
 -- nothing at all is pending for it
-quiet_all : (u : UnitState) (h : ℕ) → IsWellFormed u → is_any_pending u h ≡ false → (code : ℕ) → is_pending u h code ≡ false
+pub quiet_all : (u : UnitState) (h : ℕ) → IsWellFormed u → is_any_pending u h ≡ false → (code : ℕ) → is_pending u h code ≡ false
 quiet_all u h formed none code = false_from_ne_true (is_pending u h code) (λ is. false≢true (sym none ∙ one_of (is_pending u h) code attentions (formed.pending h code is).1 is))
 
 -- so that nothing can be gone
-same_state : (v w : UnitState) (h : ℕ) → ((code : ℕ) → is_pending v h code ≡ false) → IsQuiet v h w → w ≡ v
+pub same_state : (v w : UnitState) (h : ℕ) → ((code : ℕ) → is_pending v h code ≡ false) → IsQuiet v h w → w ≡ v
 same_state v w h none less = λ i. record { registry = less.registry i; pending = same i }
   where
     own : (code : ℕ) → is_pending w h code ≡ false

@@ -1,8 +1,10 @@
 -- What does not end GOOD, and what only looks, changes at most what is pending for the sender.
-use Rattle.pr_unit.proofs.Common.{◌≡◌, ℕ, false, not, ◌&&◌, IsTrue, ◌==◌, sym, refl, ap, ◌∙◌, subst, false≢true, and_parts, Command, Request, Plain, Faulty, power_on, Pairs, decision, StepBy, UnitState, is_pending, effect, after_report, Decision, PowerOn, Attention, Done, ◌⊎◌, inl, inr, no_change, pending_after}
-use Rattle.std.proofs.Common.{ne_eqb, eq-eqb}
+use Rattle.pr_unit.proofs.Common.{◌≡◌, ℕ, ◌<◌, true, false, not, ◌&&◌, IsTrue, ◌==◌, sym, refl, ap, ◌∙◌, subst, false≢true, and_parts, Command, Request, Plain, Faulty, power_on, Pairs, decision, StepBy, UnitState, is_pending, IsWellFormed, effect, after_report, Decision, PowerOn, Attention, Done, ◌⊎◌, inl, inr, no_change, pending_after}
+use Rattle.std.proofs.Common.{◌≢◌, ne_eqb, eq-eqb}
+use Rattle.std.proofs.lemmas.Bool.Decides.{eqb_tells}
 use Rattle.std.specs.FinSet as set
 use Rattle.pr_cdb.specs.declared.command.Command.TheVariants.{TestUnitReady, RequestSense, Read, Write, ReadKeys, ReadReservation, ReportCapabilities}
+use Rattle.pr_registry.specs.Registrations.{State, IsWellFormed as IsWellFormedRegistry}
 use Rattle.pr_unit.specs.Replies.{is_good}
 use Rattle.pr_unit.specs.Laws.{IsQuiet, request_looks, QuietSteps}
 use Rattle.pr_unit.proofs.lemmas.Attentions.Pairs.{contains-remove-pair}
@@ -29,7 +31,7 @@ unchanged : (u : UnitState) → record u { pending = pending_after u.pending no_
 unchanged u = ap (λ (p : Pairs). record u { pending = p }) (told-no_change u.pending)
 
 -- the effect of a command that only looks
-effect-looking : (u : UnitState) (h : ℕ) (c : Command) → IsTrue (request_looks (Plain c)) → effect u h c ≡ u
+pub effect-looking : (u : UnitState) (h : ℕ) (c : Command) → IsTrue (request_looks (Plain c)) → effect u h c ≡ u
 effect-looking u h TestUnitReady looks = unchanged u
 effect-looking u h RequestSense looks = unchanged u
 effect-looking u h (Read lba blocks) looks = unchanged u
@@ -56,3 +58,29 @@ quiet_steps u h q r v step why = by_decision (decision u h q) step
     by_decision Attention step = to (after_report u h step.code) step.after (reported-quiet u h step.code)
     by_decision Done step = looking q step why
     by_decision _ step = to u step.1 (same-quiet u h)
+
+-- ---- well formed states
+
+-- what is pending in a state with less is pending in the other
+pub less_pending : (u w : UnitState) (h : ℕ) → IsQuiet u h w → (g code : ℕ) → is_pending w g code ≡ true → is_pending u g code ≡ true
+less_pending u w h less g code is = at (eqb_tells g h)
+  where
+    at : (((g == h) ≡ true) × (g ≡ h)) ⊎ (((g == h) ≡ false) × (g ≢ h)) → is_pending u g code ≡ true
+    at (inl same) = ap (λ k. is_pending u k code) same.1 ∙ less.own code (ap (λ k. is_pending w k code) (sym same.1) ∙ is)
+    at (inr other) = sym (less.others g code other.1) ∙ is
+
+pub quiet_well_formed : (u w : UnitState) (h : ℕ) → IsWellFormed u → IsQuiet u h w → IsWellFormed w
+quiet_well_formed u w h formed less = record {
+  registry = subst IsWellFormedRegistry (sym less.registry) formed.registry;
+  pending = λ g code is.
+      let x = formed.pending g code (less_pending u w h less g code is) in
+      (subst (λ (k : State). g < k.hosts) (sym less.registry) x.0, x.1);
+}
+
+-- less of less is less
+pub less_of_less : (u v w : UnitState) (h : ℕ) → IsQuiet u h v → IsQuiet v h w → IsQuiet u h w
+less_of_less u v w h a b = record {
+  registry = b.registry ∙ a.registry;
+  others = λ g code differs. b.others g code differs ∙ a.others g code differs;
+  own = λ code is. a.own code (b.own code is);
+}
