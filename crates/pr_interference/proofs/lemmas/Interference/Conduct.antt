@@ -14,21 +14,22 @@ use Rattle.pr_unit.proofs.lemmas.TakenSteps.GoodSteps.{good_effect, good_step}
 use Rattle.pr_unit.proofs.lemmas.Steps.QuietSteps.{quiet_steps}
 use Rattle.pr_roles.specs.Permits.{is_always_permitted, clause_permits, command_permitted, is_permitted}
 use Rattle.pr_roles.proofs.lemmas.Permits.ServiceActions.{Serves, looks_or_serves}
-use Rattle.pr_interference.proofs.lemmas.Interference.PendingStates.{like_through, quiet_like, shown_like, like_effect, cleared, formed_cleared, like_cleared, none_cleared}
+use Rattle.pr_unit.specs.SharedPaths.{silenced}
+use Rattle.pr_interference.proofs.lemmas.Interference.PendingStates.{like_through, quiet_like, shown_like, like_effect, formed_silenced, like_silenced, none_silenced}
 
 -- ---- a step that only looks
 
 pub kept_left : (v : View) (role : List Clause) (sender : ℕ) (u : UnitState) (i : Item) → v.scope.own ≢ sender → Shows v u → IsSo v.scope u i → IsLeft v role sender i
 kept_left v role sender u i other shown so =
-    let from = cleared u sender in
-    let like = like_cleared v.scope.own u sender other in
+    let from = silenced u sender in
+    let like = like_silenced v.scope.own u sender other in
     let reply = good (data_of from.registry command.TestUnitReady) in
     let after = effect from sender command.TestUnitReady in
-    let step = good_step from sender command.TestUnitReady (none_cleared u sender) refl refl in
+    let step = good_step from sender command.TestUnitReady (none_silenced u sender) refl refl in
     let quiet = quiet_steps from sender (Plain command.TestUnitReady) reply after step (inr refl) in
     record {
       from = from;
-      shown = shown_like v u from like (formed_cleared u sender shown.formed) shown;
+      shown = shown_like v u from like (formed_silenced u sender shown.formed) shown;
       after = after;
       done = record { request = Plain command.TestUnitReady; fits = tt; reply = reply; step = step; good = refl; permitted = refl };
       is = so_like v.scope u after i (like_through v.scope.own u from after like (quiet_like v.scope.own sender from after other quiet)) so;
@@ -41,19 +42,19 @@ clause_left v role sender i other among =
     let u = among.4.0 in
     let led = among.4.2 in
     let c = led.command in
-    let from = cleared u sender in
-    let like = like_cleared v.scope.own u sender other in
+    let from = silenced u sender in
+    let like = like_silenced v.scope.own u sender other in
     let permits : command_permitted role from.registry sender c ≡ true =
     or_right (is_always_permitted c) _ (list_any-from_Any (λ clause. clause_permits clause from.registry sender c) role (among.0, among.1, among.2, among.3, led.free.permitted)) in
     record {
       from = from;
-      shown = shown_like v u from like (formed_cleared u sender led.shown.formed) led.shown;
+      shown = shown_like v u from like (formed_silenced u sender led.shown.formed) led.shown;
       after = effect from sender c;
       done = record {
         request = Plain c;
         fits = led.free.fits;
         reply = good (data_of from.registry c);
-        step = good_step from sender c (none_cleared u sender) led.free.free led.free.whole;
+        step = good_step from sender c (none_silenced u sender) led.free.free led.free.whole;
         good = refl;
         permitted = permits;
       };

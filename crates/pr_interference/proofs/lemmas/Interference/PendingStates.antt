@@ -7,6 +7,9 @@ use Rattle.std.proofs.Math.Bool.{and-false, and-true}
 use Rattle.pr_attention.specs.Attentions.{attentions}
 use Rattle.pr_unit.proofs.lemmas.Attentions.ToldAttentions.{told_alike}
 use Rattle.pr_unit.specs.UnitStates.{registry_after, change, IsWellFormed, is_any_pending, pending_after}
+use Rattle.pr_unit.specs.SharedPaths.{silenced}
+use Rattle.pr_unit.proofs.lemmas.Steps.QuietSteps.{quiet_well_formed}
+use Rattle.pr_unit.proofs.lemmas.Steps.SharedSteps.{silenced-quiet, none_silenced as nothing_silenced}
 use Rattle.pr_unit.specs.Laws.{IsQuiet}
 use Rattle.pr_unit.proofs.lemmas.Attentions.Pairs.{contains-retain-pair}
 
@@ -41,26 +44,11 @@ like_effect own h c u w like = record {
 
 -- ---- nothing is pending for the sender
 
-abbrev pub cleared : UnitState → ℕ → UnitState
-cleared u h = record u { pending = set.retain u.pending (λ p. not (p.0 == h)) }
+pub formed_silenced : (u : UnitState) (h : ℕ) → IsWellFormed u → IsWellFormed (silenced u h)
+formed_silenced u h formed = quiet_well_formed u (silenced u h) h formed (silenced-quiet u h)
 
-pub formed_cleared : (u : UnitState) (h : ℕ) → IsWellFormed u → IsWellFormed (cleared u h)
-formed_cleared u h formed = record {
-  registry = formed.registry;
-  pending = λ g code is. formed.pending g code (and_parts (set.contains u.pending (g, code)) _ (sym (contains-retain-pair u.pending (λ x. not (x == h)) (g, code)) ∙ is)).0;
-}
+pub like_silenced : (own : ℕ) (u : UnitState) (h : ℕ) → own ≢ h → IsLike own u (silenced u h)
+like_silenced own u h other = quiet_like own h u (silenced u h) other (silenced-quiet u h)
 
-pub like_cleared : (own : ℕ) (u : UnitState) (h : ℕ) → own ≢ h → IsLike own u (cleared u h)
-like_cleared own u h other = record {
-  registry = refl;
-  pending = λ code. contains-retain-pair u.pending (λ x. not (x == h)) (own, code)
-      ∙ ap (λ b. set.contains u.pending (own, code) && not b) (ne_eqb own h other) ∙ and-true (set.contains u.pending (own, code));
-}
-
-pub none_cleared : (u : UnitState) (h : ℕ) → is_any_pending (cleared u h) h ≡ false
-none_cleared u h = λ i. list_any (λ code. gone code i) attentions
-  where
-    gone : (code : ℕ) → set.contains (set.retain u.pending (λ p. not (p.0 == h))) (h, code) ≡ false
-    gone code =
-        contains-retain-pair u.pending (λ x. not (x == h)) (h, code)
-        ∙ ap (λ b. set.contains u.pending (h, code) && not b) (eq-eqb h h refl) ∙ and-false (set.contains u.pending (h, code))
+pub none_silenced : (u : UnitState) (h : ℕ) → is_any_pending (silenced u h) h ≡ false
+none_silenced u h = λ i. list_any (λ code. nothing_silenced u h code i) attentions

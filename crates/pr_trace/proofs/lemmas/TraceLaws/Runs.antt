@@ -20,7 +20,7 @@ use Rattle.pr_unit.specs.Steps.{Step}
 use Rattle.pr_unit.specs.UnitStates.{UnitState, IsWellFormed, is_pending}
 use Rattle.pr_unit.specs.Attentions.{is_attention}
 use Rattle.pr_unit.proofs.lemmas.Attentions.Resets.{well_formed-reset}
-use Rattle.pr_unit.proofs.lemmas.Steps.QuietSteps.{quiet_steps}
+use Rattle.pr_unit.proofs.lemmas.Steps.QuietSteps.{quiet_steps, quiet_well_formed}
 use Rattle.pr_unit.proofs.lemmas.Steps.WellFormedSteps.{hosts-step, well_formed-reported, well_formed-step}
 use Rattle.pr_script.specs.Grammar.{is_declared, is_written, is_written_key}
 use Rattle.pr_script.specs.Scripts.{Configuration, sends, repeats, breaks, stops as stops_with, statement, mark, ready, standing_of_items}
@@ -93,23 +93,6 @@ preempt_keys keys j k b each is =
     let parts = and_parts (is_written_key keys j) _ is in
     (written_key keys j each parts.0, written_key keys k each (and_parts (is_written_key keys k) b parts.1).0)
 
--- what only looks leaves the unit well formed, whatever its fields are
-looked : (u : UnitState) (h : ℕ) (q : Request) (r : Reply) (v : UnitState) → IsWellFormed u → request_looks q ≡ true → Step u h q r v → IsWellFormed v
-looked u h q r v formed looks step = record {
-  registry = subst IsWellFormedRegistry (sym quiet.registry) formed.registry;
-  pending = λ g code is. let old = at g code (eqb_tells g h) is in (omega (arith, old.0, hosts), old.1);
-}
-  where
-    quiet : IsQuiet u h v
-    quiet = quiet_steps u h q r v step (inr looks)
-
-    hosts : v.registry.hosts ≡ u.registry.hosts
-    hosts = ap (λ x. x.hosts) quiet.registry
-
-    at : (g code : ℕ) → (((g == h) ≡ true) × (g ≡ h)) ⊎ (((g == h) ≡ false) × (g ≢ h)) → is_pending v g code ≡ true → (g < u.registry.hosts) × IsTrue (is_attention code)
-    at g code (inl same) is = formed.pending g code (subst (λ x. is_pending u x code ≡ true) (sym same.1) (quiet.own code (subst (λ x. is_pending v x code ≡ true) same.1 is)))
-    at g code (inr other) is = formed.pending g code (sym (quiet.others g code other.1) ∙ is)
-
 -- a command that a text can write only looks, or has its fields in range
 looks_or_fits : (keys : List ℕ) (c : Command) → All IsKey keys → is_written keys c ≡ true → (request_looks (Plain c) ≡ true) ⊎ FitsWhereRead (Ok (Plain c))
 looks_or_fits keys TestUnitReady each is = inl refl
@@ -130,7 +113,7 @@ command_formed : (keys : List ℕ) (u : UnitState) (h : ℕ) (c : Command) (r : 
 command_formed keys u h c r v each formed here is step = at (looks_or_fits keys c each is)
   where
     at : (request_looks (Plain c) ≡ true) ⊎ FitsWhereRead (Ok (Plain c)) → IsWellFormed v
-    at (inl looks) = looked u h (Plain c) r v formed looks step
+    at (inl looks) = quiet_well_formed u v h formed (quiet_steps u h (Plain c) r v step (inr looks))
     at (inr fits) = well_formed-step u h (Plain c) r v formed here fits step
 
 -- ---- what is kept

@@ -13,10 +13,11 @@ use Rattle.pr_unit.specs.Attentions.{power_on}
 use Rattle.pr_unit.specs.Laws.{IsQuiet, TakesEffect, request_looks}
 use Rattle.pr_unit.specs.Replies.{good, data_of, is_good}
 use Rattle.pr_unit.specs.UnitStates.{IsWellFormed, is_pending, after_report, effect, reset}
+use Rattle.pr_unit.specs.SharedPaths.{silenced}
 use Rattle.pr_unit.proofs.lemmas.Attentions.Pairs.{pair_cmp-IsAntisymmetric}
 use Rattle.pr_unit.proofs.lemmas.Attentions.Resets.{pending-reset}
 use Rattle.pr_unit.proofs.lemmas.Steps.EasedSteps.{eased_steps}
-use Rattle.pr_unit.proofs.lemmas.Steps.QuietSteps.{same-quiet, reported-quiet, quiet_steps}
+use Rattle.pr_unit.proofs.lemmas.Steps.QuietSteps.{same-quiet, reported-quiet, less_of_less, less_pending, quiet_steps, quiet_well_formed}
 use Rattle.pr_unit.proofs.lemmas.Steps.WellFormedSteps.{well_formed-reported}
 use Rattle.pr_unit.proofs.lemmas.TakenSteps.GoodSteps.{good_effect, good_step}
 use Rattle.pr_unit.proofs.lemmas.UnitStates.AlikeStates.{IsLike}
@@ -26,36 +27,12 @@ use Rattle.pr_roles.specs.Permits.{is_permitted}
 use Rattle.pr_roles.specs.DeclaredRefusals.{is_among}
 use Rattle.pr_roles.proofs.lemmas.Permits.ServiceActions.{Serves, looks_or_serves}
 use Rattle.pr_views.specs.Possibilities.{number_of}
-use Rattle.pr_interference.proofs.lemmas.Interference.PendingStates.{quiet_like, cleared, formed_cleared, like_cleared, none_cleared}
+use Rattle.pr_interference.proofs.lemmas.Interference.PendingStates.{quiet_like, formed_silenced, like_silenced, none_silenced}
 use Rattle.pr_interference.specs.Interference.{declares_resets}
-
--- what is pending in a state with less is pending in the other
-less_pending : (u w : UnitState) (h : ℕ) → IsQuiet u h w → (g code : ℕ) → is_pending w g code ≡ true → is_pending u g code ≡ true
-less_pending u w h less g code is = at (eqb_tells g h)
-  where
-    at : (((g == h) ≡ true) × (g ≡ h)) ⊎ (((g == h) ≡ false) × (g ≢ h)) → is_pending u g code ≡ true
-    at (inl same) = ap (λ k. is_pending u k code) same.1 ∙ less.own code (ap (λ k. is_pending w k code) (sym same.1) ∙ is)
-    at (inr other) = sym (less.others g code other.1) ∙ is
-
-pub eased_well_formed : (u w : UnitState) (h : ℕ) → IsWellFormed u → IsQuiet u h w → IsWellFormed w
-eased_well_formed u w h formed less = record {
-  registry = subst IsWellFormedRegistry (sym less.registry) formed.registry;
-  pending = λ g code is.
-      let x = formed.pending g code (less_pending u w h less g code is) in
-      (subst (λ (k : State). g < k.hosts) (sym less.registry) x.0, x.1);
-}
-
--- less of less is less
-pub eased_twice : (u v w : UnitState) (h : ℕ) → IsQuiet u h v → IsQuiet v h w → IsQuiet u h w
-eased_twice u v w h a b = record {
-  registry = b.registry ∙ a.registry;
-  others = λ g code differs. b.others g code differs ∙ a.others g code differs;
-  own = λ code is. a.own code (b.own code is);
-}
 
 pub eased_start : (s : Scenario) (u w : UnitState) (h : ℕ) → IsAllowedStart s u → IsQuiet u h w → IsAllowedStart s w
 eased_start s u w h allowed less = record {
-  formed = eased_well_formed u w h allowed.formed less;
+  formed = quiet_well_formed u w h allowed.formed less;
   hosts = ap (λ (k : State). k.hosts) less.registry ∙ allowed.hosts;
   registrations = λ g n is. subst (λ (k : State). Contains n.start (key_of k g)) (sym less.registry) (allowed.registrations g n is);
   reservation = subst (λ (k : State). Contains s.reservations k.held) (sym less.registry) allowed.reservation;
@@ -127,7 +104,7 @@ module _ (s : Scenario) (h : ℕ) (script : Stmts) (budget : ℕ) (o : HasOutlin
 
   -- whatever is gone, it is shown so: this is what an attention that vanishes asks
   pub gone_shown : (line : ℕ) (u w : UnitState) → IsShownEased line u → IsQuiet u o.outline.host w → IsShownEased line w
-  gone_shown line u w eased less x more = eased x (eased_twice u w x o.outline.host less more)
+  gone_shown line u w eased less x more = eased x (less_of_less u w x o.outline.host less more)
 
   pub start_shown : (line : ℕ) (u : UnitState) → IsAllowedStart s u → Contains (first_lines script) line → IsShownEased line u
   start_shown line u allowed first w less = o.sound.shows line w (at_start (record { allowed = eased_start s u w o.outline.host allowed less; first = first }))
@@ -174,7 +151,7 @@ module _ (s : Scenario) (h : ℕ) (script : Stmts) (budget : ℕ) (o : HasOutlin
   alike_shown line u v eased like formed w less =
       let own = o.outline.host in
       let left = eased (left_as u own w) (quiet-left u w own) in
-      shown_by_parts line (left_as u own w) (left_as u own w) w left left (less.registry ∙ like.registry) (same-left u w own (λ code is. sym (like.pending code) ∙ less.own code is)) (eased_well_formed v w own formed less)
+      shown_by_parts line (left_as u own w) (left_as u own w) w left left (less.registry ∙ like.registry) (same-left u w own (λ code is. sym (like.pending code) ∙ less.own code is)) (quiet_well_formed v w own formed less)
 
   -- The host is told of this code at most, both where all that was pending before is left and where no more of it is than in w. The
   -- code may be gone in w: then all that is pending in w was pending before.
@@ -221,8 +198,8 @@ module _ (s : Scenario) (h : ℕ) (script : Stmts) (budget : ℕ) (o : HasOutlin
           ∙ ap (λ b. b || (told && x == code)) (sym (own-left u w own x)) ∙ sym (tells_left x)
 
       at : (b : Bool) → (told && is_pending w own code) ≡ b → IsShownAt o.outline line w
-      at true here = shown_by_parts line to to w shown shown same_registry (now here) (eased_well_formed v w own formed less)
-      at false gone = shown_by_parts line to left w shown (eased left (quiet-left u w own)) same_registry (same-left u w own (was gone)) (eased_well_formed v w own formed less)
+      at true here = shown_by_parts line to to w shown shown same_registry (now here) (quiet_well_formed v w own formed less)
+      at false gone = shown_by_parts line to left w shown (eased left (quiet-left u w own)) same_registry (same-left u w own (was gone)) (quiet_well_formed v w own formed less)
 
   -- what becomes of a state that is shown is shown
   becomes_shown : (line : ℕ) (u v : UnitState) → IsShownAt o.outline line u → Becomes s o.outline.host u v → IsShownAt o.outline line v
@@ -247,17 +224,17 @@ module _ (s : Scenario) (h : ℕ) (script : Stmts) (budget : ℕ) (o : HasOutlin
   served_shown line g c u v eased formed there other fits r takes permitted w less =
       let own = o.outline.host in
       let left = left_as u own w in
-      let from = cleared left g in
+      let from = silenced left g in
       let to = effect from g c in
       let tells = told_once u.registry g c own in
-      let like = like_cleared own left g (λ same. other (sym same)) in
+      let like = like_silenced own left g (λ same. other (sym same)) in
       let left_shown = eased left (quiet-left u w own) in
-      let from_shown = shown_by_parts line left left from left_shown left_shown like.registry like.pending (formed_cleared left g (formed_in (view_at o.outline.views line) left left_shown)) in
+      let from_shown = shown_by_parts line left left from left_shown left_shown like.registry like.pending (formed_silenced left g (formed_in (view_at o.outline.views line) left left_shown)) in
       let done : IsDone (role s g) g from to = record {
         request = Plain c;
         fits = fits;
         reply = good (data_of from.registry c);
-        step = good_step from g c (none_cleared left g) takes.free takes.whole;
+        step = good_step from g c (none_silenced left g) takes.free takes.whole;
         good = refl;
         permitted = permitted;
       } in
