@@ -16,6 +16,8 @@ pub use Rattle.pr_cdb.specs.declared.wire.Request.TheVariants.{Plain}
 pub use Rattle.pr_unit.specs.UnitStates.{UnitState}
 pub use Rattle.pr_script.specs.Scripts.{ready}
 pub use Rattle.pr_roles.specs.Answers.{Answers, may_come}
+pub use Rattle.pr_roles.specs.SharedAnswers.{AnswersOn}
+pub use Rattle.pr_roles.specs.inside.SharedStates.{AnswersMost}
 pub use Rattle.pr_roles.specs.DeclaredRefusals.{how_of}
 pub use Rattle.pr_roles.specs.LegalHistories.{IsLegal}
 pub use Rattle.pr_roles.specs.Scenarios.{Task, Scripted, Planned, Nexus, role, Scenario, nexus, nexus_of}
@@ -27,5 +29,5 @@ pub use Rattle.pr_roles.specs.declared.item.Item.{Item}
 pub use Rattle.pr_roles.specs.declared.item.Item.TheVariants.{Sent, Reset}
 pub use Rattle.pr_roles.specs.declared.parts.Parts.{Parts}
 pub use Rattle.pr_roles.specs.declared.role.Clause.{Clause}
-pub use Rattle.pr_audit.specs.Auditors.{control_by, Adds, IsTried, is_free, ActFor, is_planned}
+pub use Rattle.pr_audit.specs.Auditors.{control_by, Adds, AddsAfterFetches, IsWorldOf, IsTried, is_free, ActFor, is_planned}
 pub use Rattle.pr_audit.specs.inside.Auditing.{IsJudged, Reaches}

@@ -1,7 +1,8 @@
 -- Agrees with docs/FORMATS.md, 'Auditing'.
--- Histories that are followed item by item: which world they have led to, and what may come next.
+-- Histories that are followed item by item: which worlds they may have led to, and what may come next.
 use Rattle.std.specs.Prelude.{◌≡◌, ℕ, Bool, true, false, List, [], ◌∷◌, ◌++◌, Option, Some, None, length, map}
 use Rattle.pr_cdb.specs.declared.command.Command.{Command}
+use Rattle.pr_unit.specs.SharedPaths.{IsBelow}
 use Rattle.pr_unit.specs.UnitStates.{UnitState}
 use Rattle.pr_script.specs.Scripts.{Standing, ready, stopped}
 use Rattle.pr_cdb.specs.Spelling.{spelling}
@@ -9,7 +10,7 @@ use Rattle.pr_roles.specs.declared.entry.Entry.{Entry}
 use Rattle.pr_roles.specs.declared.item.Item.{Item}
 use Rattle.pr_roles.specs.declared.parts.Parts.{Parts}
 use Rattle.pr_roles.specs.Scenarios.{Scenario, Task, Scripted, Planned, scenario_of}
-use Rattle.pr_roles.specs.Worlds.{World, Event, Happens, Control, Going, Trapped, Free, standing_of, control_after, world_from}
+use Rattle.pr_roles.specs.Worlds.{World, Event, Happens, Run, Control, Going, Trapped, Free, standing_of, control_after, world_from}
 use Rattle.pr_audit.specs.declared.auditor.Auditor.{Auditor}
 use Rattle.pr_audit.specs.declared.sender.Sender.{Sender}
 use Rattle.pr_audit.specs.declared.sender.Sender.TheVariants as sender
@@ -19,7 +20,7 @@ control_by (sender.Host l) = Going l
 control_by (sender.Trapped line) = Trapped line
 control_by sender.Guest = Free
 
--- the world of an audit after this history
+-- the world of an audit after this history: of those that may be, the one in which most is pending
 abbrev pub world_at : Auditor → List Item → World
 world_at a history = record { unit = a.unit; controls = map control_by a.senders.items; history = history }
 
@@ -29,10 +30,25 @@ pub record Adds (s : Scenario) (w : World) (i : Item) (v : World) : Type 0 where
   pub happens : Happens s w event v
   pub added : v.history ≡ w.history ++ i ∷ []
 
--- true: some event adds it, and whatever event does leads here; false: none does
+-- somebody else is told of attentions, and then some event adds the item
+pub record AddsAfterFetches (s : Scenario) (w : World) (i : Item) (v : World) : Type 0 where
+  pub events : List Event
+  pub from : UnitState
+  pub fetches : Run s w events (record w { unit = from })
+  pub registry : from.registry ≡ w.unit.registry
+  pub adds : Adds s (record w { unit = from }) i v
+
+-- a world for which w stands: on shared paths less may be pending
+pub record IsWorldOf (s : Scenario) (w v : World) : Type 0 where
+  pub below : IsBelow s.shared w.unit v.unit
+  pub controls : v.controls ≡ w.controls
+  pub history : v.history ≡ w.history
+
+-- True: fetches and some event add it and lead here, and this stands for whatever an event leads to that adds it to a world for which
+-- w stands. False: no event adds it to any of them.
 abbrev pub IsTried : Scenario → World → Item → Bool → World → Type 0
-IsTried s w i true v = Adds s w i v × ((x : World) → Adds s w i x → x ≡ v)
-IsTried s w i false v = (x : World) → Adds s w i x → ⊥
+IsTried s w i true v = AddsAfterFetches s w i v × ((x y : World) → IsWorldOf s w x → Adds s x i y → IsWorldOf s v y)
+IsTried s w i false v = (x y : World) → IsWorldOf s w x → Adds s x i y → ⊥
 
 abbrev pub is_free : Control → Bool
 is_free (Going l) = false

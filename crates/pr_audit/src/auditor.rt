@@ -13,11 +13,12 @@ use crate::refusing::may_come;
 use crate::resetting::may_reset;
 use crate::sender::Sender;
 use pr_cdb::Command;
-use pr_roles::{Entry, How, Item, Scenario, first_start};
+use pr_roles::{Entry, How, Item, Nexus, Scenario, first_start};
 use pr_unit::Unit;
 use std::alloc::{AllocError, Global};
 
-/// A scenario as a history of it is followed, item by item, from some state of the unit.
+/// A scenario as a history of it is followed, item by item, from some state of the unit. On a shared path it is not known what was
+/// fetched: of the states in which the unit may be, the auditor keeps that in which most is pending.
 #[derive(Drop)]
 pub struct Auditor {
     unit: Unit,
@@ -134,8 +135,10 @@ impl Auditor {
         if !may_come(scenario, before, entry.host, how) {
             return false;
         }
-        let role = &nexuses[index].role;
-        self.senders[index].sends(&mut self.unit, role, entry, how)
+        // A unit says with its registry that it is well formed.
+        let _ = self.unit.registry();
+        let Nexus { role, shared, .. } = &nexuses[index];
+        self.senders[index].sends(&mut self.unit, role, entry, how, *shared)
     }
 
     // The same of a reset.

@@ -1,7 +1,8 @@
 //! The nexuses of an audit.
 
-ghost use Rattle.std.specs.Prelude.{◌≡◌, ◌<◌, IfOk};
+ghost use Rattle.std.specs.Prelude.{◌≡◌, ◌<◌, ◌↔◌, true, IsTrue, IfOk};
 ghost use Rattle.pr_cdb.specs.Requests.{AreBytes};
+ghost use Rattle.pr_unit.specs.Replies.{is_good, refused_with};
 ghost use Rattle.pr_roles.specs.Permits.{is_permitted};
 ghost use Rattle.pr_roles.specs.Scenarios.{task_of};
 ghost use Rattle.pr_roles.specs.Worlds.{control_of};
@@ -11,7 +12,7 @@ ghost use Rattle.pr_audit.specs.inside.Auditing.{IsAnswered, IsGuestJudged, Judg
 
 use crate::end::End;
 use crate::refusing::refused;
-use pr_cdb::{Command, Request, Status, decode, encode};
+use pr_cdb::{Command, Reply, Request, Status, decode, encode};
 use pr_roles::{Entry, How, Nexus, Role, Task, permits};
 use pr_script::{Machine, Next};
 use pr_unit::Unit;
@@ -82,12 +83,19 @@ impl Sender {
         }
     }
 
-    /// Whether it may have sent this entry, and may have been answered so. Where it may, it goes past the entry, as the unit
-    /// does; else nothing changes.
-    pub(crate) fn sends(&mut self, unit: &mut Unit, role: &Role, entry: &Entry, how: How) -> bool
+    /// Whether it may have sent this entry, and may have been answered so, on a path that is shared or is not. Where it may, it goes
+    /// past the entry, as the unit does; else nothing changes.
+    pub(crate) fn sends(
+        &mut self,
+        unit: &mut Unit,
+        role: &Role,
+        entry: &Entry,
+        how: How,
+        shared: bool,
+    ) -> bool
         requires { entry.now.host < unit.old.registry.hosts }
-        ensures judged { JudgesEntry how role.now entry.now result self.old unit.old self.new
-            unit.new }
+        ensures judged { JudgesEntry shared how role.now entry.now result self.old unit.old
+            self.new unit.new }
     {
         match self {
             Sender::Host(machine) => {
@@ -98,7 +106,7 @@ impl Sender {
                 if entry.wire != encode(&command) {
                     return false;
                 }
-                if !is_answered(unit, entry, how) {
+                if !is_answered(unit, entry, how, shared) {
                     return false;
                 }
                 if machine.take(&entry.reply).is_err() {
@@ -107,15 +115,15 @@ impl Sender {
                 true
             }
             Sender::Trapped(_) => false,
-            Sender::Guest => guest_sends(unit, role, entry, how),
+            Sender::Guest => guest_sends(unit, role, entry, how, shared),
         }
     }
 }
 
 // Whether a guest with this role may have sent the entry, and may have been answered so.
-fn guest_sends(unit: &mut Unit, role: &Role, entry: &Entry, how: How) -> bool
+fn guest_sends(unit: &mut Unit, role: &Role, entry: &Entry, how: How, shared: bool) -> bool
     requires { entry.now.host < unit.old.registry.hosts }
-    ensures { IsGuestJudged how role.now.clauses.items unit.old entry.now result unit.new }
+    ensures { IsGuestJudged shared how role.now.clauses.items unit.old entry.now result unit.new }
 {
     let cdb = entry.wire.cdb.as_slice();
     let params = entry.wire.params.as_slice();
@@ -124,21 +132,39 @@ fn guest_sends(unit: &mut Unit, role: &Role, entry: &Entry, how: How) -> bool
     let Ok(request) = decode(cdb, params) else {
         return false;
     };
-    if entry.reply.status == Status::Good && !is_permitted(role, unit, entry.host, request) {
+    if !keeps_role(role, unit, entry, request) {
         return false;
     }
-    is_answered(unit, entry, how)
+    is_answered(unit, entry, how, shared)
 }
 
-// Whether the command may have been answered so: by the unit, or by a whole refusal.
-fn is_answered(unit: &mut Unit, entry: &Entry, how: How) -> bool
+// Whether the command may have been answered so: by the unit, or by a whole refusal. On a shared path somebody else may have been
+// told of what was pending before.
+fn is_answered(unit: &mut Unit, entry: &Entry, how: How, shared: bool) -> bool
     requires { entry.now.host < unit.old.registry.hosts }
-    ensures { IsAnswered how unit.old entry.now result unit.new }
+    ensures { IsAnswered shared how unit.old entry.now result unit.new }
 {
     match how.status() {
+        None if shared => unit.follow_shared(entry.host, &entry.wire, &entry.reply),
         None => unit.follow(entry.host, &entry.wire, &entry.reply),
-        Some(status) => entry.reply == refused(status),
+        Some(status) => is_refused(&entry.reply, status),
     }
+}
+
+// Whether the reply is a whole refusal of this status.
+fn is_refused(reply: &Reply, status: Status) -> bool
+    ensures { IsTrue result ↔ (reply.now ≡ refused_with status) }
+{
+    *reply == refused(status)
+}
+
+// Whether the role permits the entry's request where it ends GOOD.
+fn keeps_role(role: &Role, unit: &Unit, entry: &Entry, request: Request) -> bool
+    requires { entry.now.host < unit.now.registry.hosts }
+    ensures { IsTrue result ↔ (is_good entry.now.reply ≡ true → IsTrue (is_permitted
+        role.now.clauses.items unit.now.registry entry.now.host request)) }
+{
+    entry.reply.status != Status::Good || is_permitted(role, unit, entry.host, request)
 }
 
 // Whether the role permits the request to end GOOD.

@@ -14,6 +14,7 @@ pub mod Schedules
 pub mod Safety
 pub mod LegalHistories
 pub mod SafeRuns
+pub mod SharedAnswers
 pub mod Breaches
 pub mod Laws
 pub mod inside

@@ -1,6 +1,6 @@
 -- Agrees with docs/FORMATS.md, 'Scenario text'.
 -- What a scenario declares, and the scenario that its parts are.
-use Rattle.std.specs.Prelude.{ℕ, Bool, true, false, List, [], Option, Some, None, map}
+use Rattle.std.specs.Prelude.{ℕ, Bool, true, false, slice_index_or, List, [], Option, Some, None, map}
 use Rattle.std.specs.List.{slice_get}
 use Rattle.std.specs.Option.{option_map_or}
 use Rattle.pr_cdb.specs.declared.command.Command.{Command}
@@ -71,7 +71,10 @@ nexus_of n = record {
   full = n.full;
 }
 
--- In versions 1 and 2 nobody but a host's script sends on its path.
+-- one that is not there has no path
+abbrev pub is_shared_by : List Bool → ℕ → Bool
+is_shared_by paths h = slice_index_or paths h false
+
 unfoldable pub scenario_of : Parts → Scenario
 scenario_of p = record {
   version = p.version;
@@ -79,6 +82,6 @@ scenario_of p = record {
   reservations = p.reservations.items;
   generation = p.generation;
   resets = p.resets;
-  shared = λ h. false;
+  shared = is_shared_by (map (λ n. n.shared) p.nexuses.items);
   nexuses = map nexus_of p.nexuses.items;
 }

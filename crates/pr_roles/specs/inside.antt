@@ -1,3 +1,4 @@
 pub mod ControlCodes
 pub mod Invariants
 pub mod StoredStarts
+pub mod SharedStates

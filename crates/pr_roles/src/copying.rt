@@ -1,7 +1,7 @@
 //! Equal parts, and whether parts are equal.
 
-ghost use Rattle.std.specs.Prelude.{◌≡◌, ◌↔◌, IsTrue, IfOk, map};
-ghost use Rattle.pr_roles.specs.Scenarios.{scenario_of, nexus_of, task_of};
+ghost use Rattle.std.specs.Prelude.{◌≡◌, ◌↔◌, IsTrue, IfOk, length, map};
+ghost use Rattle.pr_roles.specs.Scenarios.{is_shared_by, scenario_of, nexus_of, task_of};
 
 use crate::parts::{Nexus, Parts, Start, Task};
 use crate::role::{Clause, Role};
@@ -37,6 +37,7 @@ impl Parts {
             && self.generation == other.generation
             && self.resets == other.resets
             && same_nexuses(&self.nexuses, &other.nexuses)
+            && same_paths(&self.nexuses, &other.nexuses)
     }
 }
 
@@ -77,7 +78,9 @@ fn same_commands(commands: &[Command], others: &[Command]) -> bool
 }
 
 fn copied_nexuses(alloc: Global, nexuses: &[Nexus]) -> Result<Vec<Nexus>, AllocError>
-    ensures { IfOk result (λ copies. map nexus_of copies.items ≡ map nexus_of nexuses.now) }
+    ensures nexuses { IfOk result (λ copies. map nexus_of copies.items ≡ map nexus_of nexuses.now) }
+    ensures paths { IfOk result (λ copies. map (λ n. n.shared) copies.items
+        ≡ map (λ n. n.shared) nexuses.now) }
 {
     let mut copies = Vec::with_capacity(alloc, nexuses.len())?;
     for nexus in nexuses {
@@ -100,10 +103,25 @@ fn same_nexuses(nexuses: &[Nexus], others: &[Nexus]) -> bool
     true
 }
 
+// Whether somebody else may send on the same paths.
+fn same_paths(nexuses: &[Nexus], others: &[Nexus]) -> bool
+    requires { length nexuses.now ≡ length others.now }
+    ensures { IsTrue result ↔ (is_shared_by (map (λ n. n.shared) nexuses.now)
+        ≡ is_shared_by (map (λ n. n.shared) others.now)) }
+{
+    for (i, nexus) in nexuses.iter().enumerate() {
+        if nexus.shared != others[i].shared {
+            return false;
+        }
+    }
+    true
+}
+
 impl Nexus {
     /// An equal one.
     fn copy(&self, alloc: Global) -> Result<Nexus, AllocError>
-        ensures { IfOk result (λ copy. nexus_of copy ≡ nexus_of self.now) }
+        ensures nexus { IfOk result (λ copy. nexus_of copy ≡ nexus_of self.now) }
+        ensures path { IfOk result (λ copy. copy.shared ≡ self.now.shared) }
     {
         Ok(Nexus {
             name: self.name,
@@ -117,6 +135,7 @@ impl Nexus {
             task: self.task.copy(alloc)?,
             busy: self.busy,
             full: self.full,
+            shared: self.shared,
         })
     }
 

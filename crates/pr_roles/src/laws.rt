@@ -1,6 +1,7 @@
 //! Laws of starts, of refusals, of resets, of fetches and of safe runs, each the contract of a function with nothing to do.
 
 ghost use Rattle.pr_roles.specs.Limits.{LimitsAgree};
+ghost use Rattle.pr_roles.specs.SharedAnswers.{FetchesReachAll};
 ghost use Rattle.pr_roles.specs.SafeRuns.{RunsGoOn, SafeSendsAreFine, SharedPathsAreNoSafer};
 ghost use Rattle.pr_roles.specs.Laws.{StartsAreFound, FirstStartsAreEarliest, RefusalsAreCounted, RefusalsAreDeclared, FirstVersionIsPlain, ResetsAreCounted, ResetsAreDeclared, FirstVersionHasNoReset, FetchesAreUnheard};
 
@@ -52,6 +53,11 @@ pub fn first_version_has_no_reset()
 /// Where somebody else is told of an attention, it is pending no more, no script goes on, and nothing stands in the history.
 pub fn fetches_are_unheard()
     ensures { FetchesAreUnheard }
+{}
+
+/// On a shared path each state in which no more is pending for its nexus comes of fetches.
+pub fn fetches_reach_all()
+    ensures { FetchesReachAll }
 {}
 
 /// A run and one event more are a run.

@@ -36,6 +36,8 @@ pub struct Nexus {
     /// How often it may be answered BUSY, and how often TASK SET FULL.
     pub busy: u32,
     pub full: u32,
+    /// Whether somebody else may send on its path, and be told of the attentions that are pending for it.
+    pub shared: bool,
 }
 
 /// What a scenario declares. Nexuses are numbered from 0 in the order of their declaration.

@@ -1,10 +1,10 @@
 //! The end of a text: what is missing, and the scenario that was declared.
 
-ghost use Rattle.std.specs.Prelude.{◌≡◌, [], ◌∷◌, IfOk, map, option_map, unwrap_or};
+ghost use Rattle.std.specs.Prelude.{◌≡◌, [], ◌∷◌, false, IfOk, map, option_map, unwrap_or};
 ghost use Rattle.pr_roles.specs.Scenarios.{nexus_of};
 ghost use Rattle.pr_text.specs.inside.Drafts.{draft_seen};
 ghost use Rattle.pr_text.specs.Texts.{first_unscripted};
-ghost use Rattle.pr_text.specs.inside.Endings.{whole_fault};
+ghost use Rattle.pr_text.specs.inside.Endings.{AreAlone, whole_fault};
 ghost use Rattle.pr_text.specs.Reading.{nexus_written, nexus_declared};
 
 use crate::builder::{Builder, Context};
@@ -128,8 +128,9 @@ fn or_none<T: Drop>(
 }
 
 fn nexuses_of(alloc: Global, drafts: Vec<Draft>) -> Result<Vec<Nexus>, AllocError>
-    ensures { IfOk result (λ v. map nexus_written (map nexus_of v.items)
+    ensures declared { IfOk result (λ v. map nexus_written (map nexus_of v.items)
         ≡ map nexus_declared (map draft_seen drafts.items)) }
+    ensures alone { IfOk result (λ v. AreAlone v.items) }
 {
     let mut nexuses = Vec::new(alloc);
     for draft in drafts {
@@ -139,8 +140,9 @@ fn nexuses_of(alloc: Global, drafts: Vec<Draft>) -> Result<Vec<Nexus>, AllocErro
 }
 
 fn nexus_of(alloc: Global, draft: Draft) -> Result<Nexus, AllocError>
-    ensures { IfOk result (λ nexus. nexus_written (nexus_of nexus)
+    ensures declared { IfOk result (λ nexus. nexus_written (nexus_of nexus)
         ≡ nexus_declared (draft_seen draft)) }
+    ensures alone { IfOk result (λ nexus. nexus.shared ≡ false) }
 {
     let Draft {
         name,
@@ -163,5 +165,6 @@ fn nexus_of(alloc: Global, draft: Draft) -> Result<Nexus, AllocError>
         task: task.unwrap_or(Task::Planned(Vec::new(alloc))),
         busy: busy.unwrap_or(0),
         full: full.unwrap_or(0),
+        shared: false,
     })
 }

@@ -1,4 +1,3 @@
 pub mod Additions
 pub mod Admissions
-pub mod FixedStates
 pub mod RefusalsLeft

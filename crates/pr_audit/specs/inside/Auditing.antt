@@ -6,6 +6,7 @@ use Rattle.pr_cdb.specs.declared.wire.Request.{Request}
 use Rattle.pr_cdb.specs.declared.wire.Request.TheVariants.{Plain}
 use Rattle.pr_cdb.specs.Requests.{request_of_wire, AreBytes}
 use Rattle.pr_cdb.specs.Spelling.{spelling}
+use Rattle.pr_registry.specs.Registrations.{State}
 use Rattle.pr_unit.specs.UnitStates.{UnitState}
 use Rattle.pr_unit.specs.Replies.{is_good}
 use Rattle.pr_script.specs.declared.limits.TheConstants.{MOST_OPEN}
@@ -18,17 +19,19 @@ use Rattle.pr_roles.specs.declared.role.Role.{Role}
 use Rattle.pr_roles.specs.declared.entry.Entry.{Entry}
 use Rattle.pr_roles.specs.declared.item.Item.{Item}
 use Rattle.pr_roles.specs.declared.how.How.{How}
-use Rattle.pr_roles.specs.Answers.{Answers}
+use Rattle.pr_roles.specs.SharedAnswers.{AnswersOn}
+use Rattle.pr_roles.specs.inside.SharedStates.{AnswersMost}
 use Rattle.pr_roles.specs.Permits.{is_permitted}
 use Rattle.pr_roles.specs.Scenarios.{Scenario, Task, Scripted, Planned, scenario_of}
 use Rattle.pr_roles.specs.Worlds.{World, Event, Run, Control, Going, Trapped, Free, control_of, standing_of, control_after, world_from}
 use Rattle.pr_audit.specs.declared.sender.Sender.{Sender}
 use Rattle.pr_audit.specs.Auditors.{control_by}
 
--- True: what its bytes ask for may be answered so, and then the unit is in this state. False: it may not, and nothing changes.
-abbrev pub IsAnswered : How → UnitState → Entry → Bool → UnitState → Type 0
-IsAnswered k u e true v = (q : Request) → request_of_wire e.wire ≡ Ok q → Answers k u e.host q e.reply v
-IsAnswered k u e false v = (v ≡ u) × ((q : Request) (w : UnitState) → request_of_wire e.wire ≡ Ok q → Answers k u e.host q e.reply w → ⊥)
+-- True: what its bytes ask for may be answered so, on a shared path or another, and then most is pending in this state. False: it
+-- may not, and nothing changes.
+abbrev pub IsAnswered : Bool → How → UnitState → Entry → Bool → UnitState → Type 0
+IsAnswered shared k u e true v = (q : Request) → request_of_wire e.wire ≡ Ok q → AnswersMost shared k u e.host q e.reply v
+IsAnswered shared k u e false v = (v ≡ u) × ((q : Request) (w : UnitState) → request_of_wire e.wire ≡ Ok q → AnswersOn shared k u e.host q e.reply w → ⊥)
 
 -- ---- one nexus
 
@@ -37,44 +40,55 @@ abbrev pub IsShort : Task → Type 0
 IsShort (Scripted script budget) = depth_of_all script ≤ MOST_OPEN
 IsShort (Planned commands) = length commands ≤ MOST_PLANNED
 
+-- the states to which a request may lead
+abbrev pub Outcomes : Type 1
+Outcomes = Request → UnitState → Type 0
+
 -- the script's next command is spelled so, it may be answered so, and the script takes the reply
-pub record ScriptSends (k : How) (c : Control) (u : UnitState) (e : Entry) (after : Control) (v : UnitState) : Type 0 where
+pub record ScriptSends (Leads : Outcomes) (c : Control) (e : Entry) (after : Control) (v : UnitState) : Type 0 where
   pub line : ℕ
   pub command : Command
   pub ready : standing_of c ≡ Some (ready line command)
   pub wire : e.wire ≡ spelling command
-  pub answer : Answers k u e.host (Plain command) e.reply v
+  pub answer : Leads (Plain command) v
   pub takes : after ≡ control_after line c e.reply
 
 -- the bytes are a request, it may be answered so, and where that is GOOD the role permits it
-pub record GuestSendsSo (k : How) (clauses : List Clause) (u : UnitState) (e : Entry) (v : UnitState) : Type 0 where
+pub record GuestSendsSo (Leads : Outcomes) (clauses : List Clause) (u : State) (e : Entry) (v : UnitState) : Type 0 where
   pub bytes : AreBytes e.wire.cdb.items × AreBytes e.wire.params.items
   pub lengths : (length e.wire.cdb.items ≤ MOST_CDB_LENGTH) × (length e.wire.params.items ≤ PARAMETER_LIST_LENGTH)
   pub request : Request
   pub read : request_of_wire e.wire ≡ Ok request
-  pub answer : Answers k u e.host request e.reply v
-  pub permitted : is_good e.reply ≡ true → IsTrue (is_permitted clauses u.registry e.host request)
+  pub answer : Leads request v
+  pub permitted : is_good e.reply ≡ true → IsTrue (is_permitted clauses u e.host request)
 
 -- The entry may come next, of one that acts so under this role. Then it acts otherwise, and the unit is in another state.
-abbrev pub MayCome : How → Control → List Clause → UnitState → Entry → Control → UnitState → Type 0
-MayCome k (Going l) clauses u e after v = ScriptSends k (Going l) u e after v
-MayCome k (Trapped line) clauses u e after v = ⊥
-MayCome k Free clauses u e after v = GuestSendsSo k clauses u e v × (after ≡ Free)
+abbrev pub MayCome : Outcomes → Control → List Clause → State → Entry → Control → UnitState → Type 0
+MayCome Leads (Going l) clauses u e after v = ScriptSends Leads (Going l) e after v
+MayCome Leads (Trapped line) clauses u e after v = ⊥
+MayCome Leads Free clauses u e after v = GuestSendsSo Leads clauses u e v × (after ≡ Free)
+
+-- to which states the reply may lead, and to which of them where most is pending
+abbrev pub LeadsTo : Bool → How → UnitState → Entry → Outcomes
+LeadsTo shared k u e q v = AnswersOn shared k u e.host q e.reply v
+
+abbrev pub LeadsToMost : Bool → How → UnitState → Entry → Outcomes
+LeadsToMost shared k u e q v = AnswersMost shared k u e.host q e.reply v
 
 -- True: it may come next, and this comes of it. False: it may not, whatever would come of it, and nothing changes.
-abbrev pub IsJudged : How → Control → List Clause → UnitState → Entry → Bool → Control → UnitState → Type 0
-IsJudged k c clauses u e true after v = MayCome k c clauses u e after v
-IsJudged k c clauses u e false after v =
-    (after ≡ c) × (v ≡ u) × ((other : Control) (w : UnitState) → MayCome k c clauses u e other w → ⊥)
+abbrev pub IsJudged : Bool → How → Control → List Clause → UnitState → Entry → Bool → Control → UnitState → Type 0
+IsJudged shared k c clauses u e true after v = MayCome (LeadsToMost shared k u e) c clauses u.registry e after v
+IsJudged shared k c clauses u e false after v =
+    (after ≡ c) × (v ≡ u) × ((other : Control) (w : UnitState) → MayCome (LeadsTo shared k u e) c clauses u.registry e other w → ⊥)
 
 -- the same of a sender with this role, which becomes the other
-abbrev pub JudgesEntry : How → Role → Entry → Bool → Sender → UnitState → Sender → UnitState → Type 0
-JudgesEntry k role e answer x u y v = IsJudged k (control_by x) role.clauses.items u e answer (control_by y) v
+abbrev pub JudgesEntry : Bool → How → Role → Entry → Bool → Sender → UnitState → Sender → UnitState → Type 0
+JudgesEntry shared k role e answer x u y v = IsJudged shared k (control_by x) role.clauses.items u e answer (control_by y) v
 
 -- the same of a guest
-abbrev pub IsGuestJudged : How → List Clause → UnitState → Entry → Bool → UnitState → Type 0
-IsGuestJudged k clauses u e true v = GuestSendsSo k clauses u e v
-IsGuestJudged k clauses u e false v = (v ≡ u) × ((w : UnitState) → GuestSendsSo k clauses u e w → ⊥)
+abbrev pub IsGuestJudged : Bool → How → List Clause → UnitState → Entry → Bool → UnitState → Type 0
+IsGuestJudged shared k clauses u e true v = GuestSendsSo (LeadsToMost shared k u e) clauses u.registry e v
+IsGuestJudged shared k clauses u e false v = (v ≡ u) × ((w : UnitState) → GuestSendsSo (LeadsTo shared k u e) clauses u.registry e w → ⊥)
 
 -- ---- all of them
 

@@ -51,10 +51,10 @@ task_sync : IsSync (task.the_field).row
 task_sync = enum_sync (choices task.the_type) ((script_sync, (search sendable, tt)), ((Vec-sync _ command.the_sync, tt), tt))
 
 nexus_send : IsSend (nexus.the_field).row
-nexus_send = struct_send (shape nexus.the_type) (search (sendable, word.the_send), (role.the_field_send, (start.the_field_send, (pending.the_send, (task_send, (search sendable, (search sendable, tt)))))))
+nexus_send = struct_send (shape nexus.the_type) (search (sendable, word.the_send), (role.the_field_send, (start.the_field_send, (pending.the_send, (task_send, (search sendable, (search sendable, (search sendable, tt))))))))
 
 nexus_sync : IsSync (nexus.the_field).row
-nexus_sync = struct_sync (shape nexus.the_type) (search (sendable, word.the_sync), (role.the_field_sync, (start.the_field_sync, (pending.the_sync, (task_sync, (search sendable, (search sendable, tt)))))))
+nexus_sync = struct_sync (shape nexus.the_type) (search (sendable, word.the_sync), (role.the_field_sync, (start.the_field_sync, (pending.the_sync, (task_sync, (search sendable, (search sendable, (search sendable, tt))))))))
 
 parts_send : IsSend (parts.the_field).row
 parts_send = struct_send (shape parts.the_type) (search sendable, (search (sendable, crosses), (Vec-send (option.the_row declared.the_row) (optional.the_send declared.the_row held.the_send), (search sendable, (search sendable, (Vec-send _ (recorded_send (nexus.the_field).row _ _ (nexus.the_type).to_one nexus_send), tt))))))

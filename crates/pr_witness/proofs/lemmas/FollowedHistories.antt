@@ -17,9 +17,10 @@ use Rattle.pr_roles.specs.Scenarios.{role}
 use Rattle.pr_roles.specs.Worlds.{Event, Host, Guest, UnitReset, Fetched, Happens, HostSends, control, entry_of, standing_of, world_from}
 use Rattle.pr_roles.proofs.lemmas.Scenarios.Parts.{count_of_parts}
 use Rattle.pr_audit.specs.declared.auditor.Auditor.{Auditor}
-use Rattle.pr_audit.specs.Auditors.{Adds, IsTried, is_free, is_planned}
+use Rattle.pr_registry.specs.Registrations.{State}
+use Rattle.pr_audit.specs.Auditors.{Adds, AddsAfterFetches, IsTried, is_free, is_planned}
 use Rattle.pr_audit.proofs.lemmas.Auditors.Additions.{guests_free, same_entry, same_item}
-use Rattle.pr_audit.proofs.lemmas.Auditing.Histories.{one_longer, reaches_more}
+use Rattle.pr_audit.proofs.lemmas.Auditing.Histories.{one_longer, reaches_more, run_on}
 use Rattle.pr_witness.specs.declared.breach.Breach.{Breach}
 use Rattle.pr_witness.specs.declared.breach.CertifiedRun.{CertifiedRun}
 use Rattle.pr_witness.specs.Breaches.{IsBreachOf, broken_of}
@@ -84,14 +85,31 @@ leaves s u w v e h line followed with_it adds = by adds.event adds.happens adds.
 
 -- ---- what is broken
 
+-- the fetches before it lead to a world that is followed, too
+fetched_followed : (s : Scenario) (u : UnitState) (w v : World) (e : Item) → IsFollowed s u w.history w → (more : AddsAfterFetches s w e v) → IsFollowed s u w.history (record w { unit = more.from })
+fetched_followed s u w v e followed more = record {
+  reaches = record {
+    events = followed.reaches.events ++ more.events;
+    run = run_on s (world_from s u) followed.reaches.events w more.events (record w { unit = more.from }) followed.reaches.run more.fetches;
+    items = refl;
+  };
+  acts = record { hosts = ap (λ (r : State). r.hosts) more.registry ∙ followed.acts.hosts; tasks = followed.acts.tasks };
+}
+
 pub forbidden_breaks : (s : Scenario) (u : UnitState) (history : List Item) (a b : Auditor) (e : Item) (broken : Broken) → IsFollowed s u history (world_at a history)
-    → Adds s (world_at a history) e (world_at b (history ++ e ∷ [])) → IsForbidden s (world_at a []) e broken → Breaks s u (world_at b (history ++ e ∷ [])) broken
-forbidden_breaks s u history a b (Sent e) (meets_no_arm h line) followed adds bad = absurd bad
-forbidden_breaks s u history a b (Sent e) (leaves_role h line) followed adds with_it =
-    leaves s u (world_at a history) (world_at b (history ++ Sent e ∷ [])) e h line followed
-    (record { sender = with_it.sender; command = with_it.command; ready = with_it.ready; good = with_it.good; forbidden = with_it.forbidden }) adds
-forbidden_breaks s u history a b (Sent e) (exceeds_budget h) followed adds bad = absurd bad
-forbidden_breaks s u history a b Reset broken followed adds bad = absurd bad
+    → AddsAfterFetches s (world_at a history) e (world_at b (history ++ e ∷ [])) → IsForbidden s (world_at a []) e broken → Breaks s u (world_at b (history ++ e ∷ [])) broken
+forbidden_breaks s u history a b (Sent e) (meets_no_arm h line) followed more bad = absurd bad
+forbidden_breaks s u history a b (Sent e) (leaves_role h line) followed more with_it =
+    leaves s u (record { unit = more.from; controls = (world_at a history).controls; history = history }) (world_at b (history ++ Sent e ∷ [])) e h line (fetched_followed s u (world_at a history) (world_at b (history ++ Sent e ∷ [])) (Sent e) followed more)
+    (record {
+      sender = with_it.sender;
+      command = with_it.command;
+      ready = with_it.ready;
+      good = with_it.good;
+      forbidden = ap (λ (r : State). is_permitted (role s h) r h (Plain with_it.command)) more.registry ∙ with_it.forbidden;
+    }) more.adds
+forbidden_breaks s u history a b (Sent e) (exceeds_budget h) followed more bad = absurd bad
+forbidden_breaks s u history a b Reset broken followed more bad = absurd bad
 
 pub forbidden_whole : (s : Scenario) (u : UnitState) (history before : List Item) (a b : Auditor) (e : Item) (broken : Broken) → history ≡ before ++ e ∷ []
     → IsFollowed s u before (world_at a before) → IsTried s (world_at a before) e true (world_at b (before ++ e ∷ [])) → ActFor s (world_at b [])

@@ -1,14 +1,31 @@
 -- What may come next of one nexus.
-use Rattle.pr_audit.proofs.Common.{◌≡◌, ℕ, Bool, true, false, List, Some, None, Option, Ok, sym, refl, ap, ◌∙◌, subst, Reply, Request, Plain, UnitState, ready, Answers, Control, Going, Trapped, Free, control_after, Entry, How, Clause, control_by, is_free, IsJudged}
+use Rattle.pr_audit.proofs.Common.{◌≡◌, ℕ, Bool, true, false, List, Some, None, Option, Ok, sym, refl, ap, ◌∙◌, subst, false≢true, spelling, standing_of, Command, Reply, Request, Plain, UnitState, ready, Answers, AnswersMost, AnswersOn, Control, Going, Trapped, Free, control_after, Entry, How, Clause, control_by, is_free, IsJudged}
+use Rattle.std.specs.Prelude.{◌↔◌, ◌≤◌, IsTrue, Result, Err, length}
+use Rattle.std.proofs.lemmas.Option.{same_Some}
 use Rattle.pr_script.specs.Scripts.{Configuration}
 use Rattle.pr_script.specs.Takes.{take}
+use Rattle.pr_roles.specs.Permits.{is_permitted}
 use Rattle.pr_roles.specs.Worlds.{going_or_trapped}
+use Rattle.pr_unit.specs.Replies.{is_good}
 use Rattle.pr_unit.proofs.lemmas.Steps.WellFormedSteps.{hosts-step}
+use Rattle.pr_registry.specs.Registrations.{State}
+use Rattle.pr_cdb.specs.declared.reply.Status.{Status}
+use Rattle.pr_cdb.specs.declared.reply.Status.TheVariants as status
+use Rattle.pr_cdb.specs.declared.wire.Bad.{Bad}
+use Rattle.pr_cdb.specs.declared.codes.TheConstants.{MOST_CDB_LENGTH, PARAMETER_LIST_LENGTH}
+use Rattle.pr_cdb.specs.Requests.{AreBytes, request_of_wire}
+use Rattle.pr_unit.specs.Follows.{Follows}
+use Rattle.pr_unit.specs.Laws.{IsQuiet}
+use Rattle.pr_unit.specs.Replies.{refused_with}
+use Rattle.pr_unit.specs.SharedPaths.{FollowsShared}
+use Rattle.pr_unit.specs.inside.SharedStates.{IsAtMost}
+use Rattle.pr_unit.proofs.lemmas.Steps.FixedStates.{step_fixed}
+use Rattle.pr_unit.proofs.lemmas.Steps.QuietSteps.{same-quiet}
+use Rattle.pr_roles.specs.Answers.{status_of}
 use Rattle.pr_roles.specs.declared.how.How.TheVariants as how
 use Rattle.pr_audit.specs.declared.sender.Sender.{Sender}
 use Rattle.pr_audit.specs.declared.sender.Sender.TheVariants as sender
-use Rattle.pr_audit.specs.inside.Auditing.{ScriptSends, GuestSendsSo, MayCome, IsGuestJudged}
-use Rattle.pr_audit.proofs.lemmas.Auditors.FixedStates.{step_fixed}
+use Rattle.pr_audit.specs.inside.Auditing.{IsAnswered, ScriptSends, GuestSendsSo, MayCome, LeadsTo, LeadsToMost, IsGuestJudged}
 
 -- ---- who is a guest stays one
 
@@ -19,43 +36,138 @@ free_taken line l r = at (take l r)
     at None = refl
     at (Some m) = refl
 
+-- ---- how a request was answered
+
+-- where it may not be answered so nothing changes
+same_shared : (u : UnitState) (h : ℕ) (o : Result Request Bad) (r : Reply) (v : UnitState) → FollowsShared u h o r false v → v ≡ u
+same_shared u h (Ok q) r v none = none.0
+same_shared u h (Err bad) r v none = none
+
+same_alone : (u : UnitState) (h : ℕ) (o : Result Request Bad) (r : Reply) (v : UnitState) → Follows u h o r false v → v ≡ u
+same_alone u h (Ok q) r v none = none.0
+same_alone u h (Err bad) r v none = none
+
+pub answered_shared : (shared : Bool) → shared ≡ true → (k : How) → status_of k ≡ None → (u : UnitState) (e : Entry) (b : Bool) (v : UnitState) → FollowsShared u e.host (request_of_wire e.wire) e.reply b v
+    → IsAnswered shared k u e b v
+answered_shared false is k unit u e b v follows = absurd (false≢true is)
+answered_shared true is how.Busy unit u e b v follows = absurd (cc)
+answered_shared true is how.Full unit u e b v follows = absurd (cc)
+answered_shared true is how.Plain unit u e true v follows = λ q read.
+    let most = subst (λ o. FollowsShared u e.host o e.reply true v) read follows in
+    record {
+      answer = record { from = most.is.from; less = most.is.less; answer = most.is.step };
+      most = λ w x. most.most w (record { from = x.from; less = x.less; step = x.answer });
+    }
+answered_shared true is how.Plain unit u e false v follows = (
+  same_shared u e.host (request_of_wire e.wire) e.reply v follows,
+  λ q w read x. (subst (λ o. FollowsShared u e.host o e.reply false v) read follows).1 w (record { from = x.from; less = x.less; step = x.answer }),
+)
+
+pub answered_alone : (shared : Bool) → shared ≡ false → (k : How) → status_of k ≡ None → (u : UnitState) (e : Entry) (b : Bool) (v : UnitState) → Follows u e.host (request_of_wire e.wire) e.reply b v
+    → IsAnswered shared k u e b v
+answered_alone true is k unit u e b v follows = absurd (false≢true (sym is))
+answered_alone false is how.Busy unit u e b v follows = absurd (cc)
+answered_alone false is how.Full unit u e b v follows = absurd (cc)
+answered_alone false is how.Plain unit u e true v follows = λ q read.
+    let step = subst (λ o. Follows u e.host o e.reply true v) read follows in
+    record { answer = step; most = λ w other. step_fixed u e.host q e.reply w v other step }
+answered_alone false is how.Plain unit u e false v follows = (
+  same_alone u e.host (request_of_wire e.wire) e.reply v follows,
+  λ q w read step. (subst (λ o. Follows u e.host o e.reply false v) read follows).1 w step,
+)
+
+-- a refusal
+refused_on : (shared : Bool) (u : UnitState) (h : ℕ) (q : Request) (r : Reply) (k : How) (t : Status) → status_of k ≡ Some t → r ≡ refused_with t → AnswersMost shared k u h q r u
+refused_on shared u h q r how.Plain t is same = absurd (cc)
+refused_on true u h q r how.Busy t is same = record {
+  answer = record { from = u; less = same-quiet u h; answer = (same ∙ ap refused_with (sym (same_Some status.Busy t is)), refl) };
+  most = λ w x. subst (IsQuiet u h) (sym x.answer.1) x.less;
+}
+refused_on true u h q r how.Full t is same = record {
+  answer = record { from = u; less = same-quiet u h; answer = (same ∙ ap refused_with (sym (same_Some status.TaskFull t is)), refl) };
+  most = λ w x. subst (IsQuiet u h) (sym x.answer.1) x.less;
+}
+refused_on false u h q r how.Busy t is same = record { answer = (same ∙ ap refused_with (sym (same_Some status.Busy t is)), refl); most = λ w x. x.1 }
+refused_on false u h q r how.Full t is same = record { answer = (same ∙ ap refused_with (sym (same_Some status.TaskFull t is)), refl); most = λ w x. x.1 }
+
+not_refused : (shared : Bool) (u : UnitState) (h : ℕ) (q : Request) (r : Reply) (k : How) (t : Status) (w : UnitState) → status_of k ≡ Some t → (r ≡ refused_with t → ⊥) → AnswersOn shared k u h q r w → ⊥
+not_refused shared u h q r how.Plain t w is differs answer = absurd (cc)
+not_refused true u h q r how.Busy t w is differs x = differs (x.answer.0 ∙ ap refused_with (same_Some status.Busy t is))
+not_refused true u h q r how.Full t w is differs x = differs (x.answer.0 ∙ ap refused_with (same_Some status.TaskFull t is))
+not_refused false u h q r how.Busy t w is differs x = differs (x.0 ∙ ap refused_with (same_Some status.Busy t is))
+not_refused false u h q r how.Full t w is differs x = differs (x.0 ∙ ap refused_with (same_Some status.TaskFull t is))
+
+pub answered_refused : (shared : Bool) (k : How) (t : Status) → status_of k ≡ Some t → (u : UnitState) (e : Entry) (b : Bool) → IsTrue b ↔ (e.reply ≡ refused_with t) → IsAnswered shared k u e b u
+answered_refused shared k t is u e true same = λ q read. refused_on shared u e.host q e.reply k t is (same.0 refl)
+answered_refused shared k t is u e false same = (refl, λ q w read x. not_refused shared u e.host q e.reply k t w is (λ it. false≢true (same.1 it)) x)
+
+-- the command for which a script is ready
+pub script_judged : (shared : Bool) (k : How) (x : Sender) (l : Configuration) (clauses : List Clause) (u : UnitState) (e : Entry) (line : ℕ) (c : Command) (after : Control) (v : UnitState) → x ≡ sender.Host l
+    → standing_of (Going l) ≡ Some (ready line c) → e.wire ≡ spelling c → request_of_wire e.wire ≡ Ok (Plain c) → IsAnswered shared k u e true v → after ≡ control_after line (Going l) e.reply
+    → IsJudged shared k (control_by x) clauses u e true after v
+script_judged shared k x l clauses u e line c after v is stands wire read answered takes =
+    subst (λ y. IsJudged shared k (control_by y) clauses u e true after v) (sym is)
+    (record { line = line; command = c; ready = stands; wire = wire; answer = answered (Plain c) read; takes = takes })
+
 -- ---- the guest among the senders
 
-guest_judged_free : (so : How) (clauses : List Clause) (u : UnitState) (e : Entry) (b : Bool) (v : UnitState) → IsGuestJudged so clauses u e b v → IsJudged so Free clauses u e b Free v
-guest_judged_free so clauses u e true v judged = (judged, refl)
-guest_judged_free so clauses u e false v judged = (refl, judged.0, λ other w may. judged.1 w may.0)
+guest_judged_free : (shared : Bool) (so : How) (clauses : List Clause) (u : UnitState) (e : Entry) (b : Bool) (v : UnitState) → IsGuestJudged shared so clauses u e b v → IsJudged shared so Free clauses u e b Free v
+guest_judged_free shared so clauses u e true v judged = (judged, refl)
+guest_judged_free shared so clauses u e false v judged = (refl, judged.0, λ other w may. judged.1 w may.0)
 
-pub guest_judged : (so : How) (x : Sender) (clauses : List Clause) (u : UnitState) (e : Entry) (b : Bool) (v : UnitState) → x ≡ sender.Guest → IsGuestJudged so clauses u e b v
-    → IsJudged so (control_by x) clauses u e b (control_by x) v
-guest_judged so x clauses u e b v is judged =
-    subst (λ y. IsJudged so (control_by y) clauses u e b (control_by y) v) (sym is) (guest_judged_free so clauses u e b v judged)
+pub guest_judged : (shared : Bool) (so : How) (x : Sender) (clauses : List Clause) (u : UnitState) (e : Entry) (b : Bool) (v : UnitState) → x ≡ sender.Guest → IsGuestJudged shared so clauses u e b v
+    → IsJudged shared so (control_by x) clauses u e b (control_by x) v
+guest_judged shared so x clauses u e b v is judged =
+    subst (λ y. IsJudged shared so (control_by y) clauses u e b (control_by y) v) (sym is) (guest_judged_free shared so clauses u e b v judged)
 
--- ---- what comes of an entry is fixed
+-- what a guest sends
+pub guest_sent : (shared : Bool) (k : How) (clauses : List Clause) (u : UnitState) (e : Entry) (q : Request) (b : Bool) (v : UnitState) → AreBytes e.wire.cdb.items × AreBytes e.wire.params.items
+    → (length e.wire.cdb.items ≤ MOST_CDB_LENGTH) × (length e.wire.params.items ≤ PARAMETER_LIST_LENGTH) → request_of_wire e.wire ≡ Ok q
+    → (is_good e.reply ≡ true → IsTrue (is_permitted clauses u.registry e.host q)) → IsAnswered shared k u e b v → IsGuestJudged shared k clauses u e b v
+guest_sent shared k clauses u e q true v bytes lengths read permitted answered = record { bytes = bytes; lengths = lengths; request = q; read = read; answer = answered q read; permitted = permitted }
+guest_sent shared k clauses u e q false v bytes lengths read permitted none = (none.0, λ w x. none.1 x.request w x.read x.answer)
 
-answer_fixed : (so : How) (u : UnitState) (h : ℕ) (q : Request) (r : Reply) (v w : UnitState) → Answers so u h q r v → Answers so u h q r w → v ≡ w
-answer_fixed how.Plain u h q r v w one two = step_fixed u h q r v w one two
-answer_fixed _ u h q r v w one two = one.1 ∙ sym two.1
+-- ---- most is pending in what comes of an entry
 
-script_fixed : (so : How) (k : Control) (u : UnitState) (e : Entry) (after other : Control) (v w : UnitState) → ScriptSends so k u e after v → ScriptSends so k u e other w → (other ≡ after) × (w ≡ v)
-script_fixed so k u e after other v w one two =
-    let same : Some (ready two.line two.command) ≡ Some (ready one.line one.command) = sym two.ready ∙ one.ready in
-    let line : two.line ≡ one.line = cc in
-    let command : two.command ≡ one.command = cc in (
-      two.takes ∙ (ap (λ n. control_after n k e.reply) line ∙ sym one.takes),
-      answer_fixed so u e.host (Plain one.command) e.reply w v (subst (λ c. Answers so u e.host (Plain c) e.reply w) command two.answer) one.answer,
-    )
+module _ (shared : Bool) (so : How) (u : UnitState) (e : Entry) where
+  script_most : (k after other : Control) (v w : UnitState) → ScriptSends (LeadsToMost shared so u e) k e after v → ScriptSends (LeadsTo shared so u e) k e other w → (other ≡ after) × IsAtMost shared v e.host w
+  script_most k after other v w one two =
+      let same : Some (ready two.line two.command) ≡ Some (ready one.line one.command) = sym two.ready ∙ one.ready in
+      let line : two.line ≡ one.line = cc in
+      let command : two.command ≡ one.command = cc in (
+        two.takes ∙ (ap (λ n. control_after n k e.reply) line ∙ sym one.takes),
+        one.answer.most w (subst (λ c. AnswersOn shared so u e.host (Plain c) e.reply w) command two.answer),
+      )
 
-guest_fixed : (so : How) (clauses : List Clause) (u : UnitState) (e : Entry) (v w : UnitState) → GuestSendsSo so clauses u e v → GuestSendsSo so clauses u e w → w ≡ v
-guest_fixed so clauses u e v w one two =
-    let same : Ok two.request ≡ Ok one.request = sym two.read ∙ one.read in
-    let request : two.request ≡ one.request = cc in
-    answer_fixed so u e.host one.request e.reply w v (subst (λ q. Answers so u e.host q e.reply w) request two.answer) one.answer
+  guest_most : (clauses : List Clause) (v w : UnitState) → GuestSendsSo (LeadsToMost shared so u e) clauses u.registry e v → GuestSendsSo (LeadsTo shared so u e) clauses u.registry e w → IsAtMost shared v e.host w
+  guest_most clauses v w one two =
+      let same : Ok two.request ≡ Ok one.request = sym two.read ∙ one.read in
+      let request : two.request ≡ one.request = cc in
+      one.answer.most w (subst (λ q. AnswersOn shared so u e.host q e.reply w) request two.answer)
 
-pub may_fixed : (so : How) (k : Control) (clauses : List Clause) (u : UnitState) (e : Entry) (after other : Control) (v w : UnitState) → MayCome so k clauses u e after v → MayCome so k clauses u e other w
-    → (other ≡ after) × (w ≡ v)
-may_fixed so (Going l) clauses u e after other v w one two = script_fixed so (Going l) u e after other v w one two
-may_fixed so (Trapped line) clauses u e after other v w one two = absurd one
-may_fixed so Free clauses u e after other v w one two = (two.1 ∙ sym one.1, guest_fixed so clauses u e v w one.0 two.0)
+  pub may_most : (k : Control) (clauses : List Clause) (after other : Control) (v w : UnitState) → MayCome (LeadsToMost shared so u e) k clauses u.registry e after v
+      → MayCome (LeadsTo shared so u e) k clauses u.registry e other w → (other ≡ after) × IsAtMost shared v e.host w
+  may_most (Going l) clauses after other v w one two = script_most (Going l) after other v w one two
+  may_most (Trapped line) clauses after other v w one two = absurd one
+  may_most Free clauses after other v w one two = (two.1 ∙ sym one.1, guest_most clauses v w one.0 two.0)
+
+-- an entry that leads to some states leads to others, where its request does
+pub may_lead : (k : Control) (clauses : List Clause) (u t : State) (e : Entry) (after : Control) (v w : UnitState) (One Other : Request → UnitState → Type 0) → t ≡ u → ((q : Request) → One q v → Other q w)
+    → MayCome One k clauses u e after v → MayCome Other k clauses t e after w
+may_lead (Going l) clauses u t e after v w One Other same leads may =
+    record { line = may.line; command = may.command; ready = may.ready; wire = may.wire; answer = leads (Plain may.command) may.answer; takes = may.takes }
+may_lead (Trapped line) clauses u t e after v w One Other same leads may = absurd may
+may_lead Free clauses u t e after v w One Other same leads may = (
+  record {
+    bytes = may.0.bytes;
+    lengths = may.0.lengths;
+    request = may.0.request;
+    read = may.0.read;
+    answer = leads may.0.request may.0.answer;
+    permitted = subst (λ (x : State). is_good e.reply ≡ true → IsTrue (is_permitted clauses x e.host may.0.request)) (sym same) may.0.permitted;
+  },
+  may.1,
+)
 
 -- ---- who is a guest stays one, and no host goes
 
@@ -63,15 +175,19 @@ pub hosts-answer : (so : How) (u : UnitState) (h : ℕ) (q : Request) (r : Reply
 hosts-answer how.Plain u h q r v step = hosts-step u h q r v step
 hosts-answer _ u h q r v refused = ap (λ (x : UnitState). x.registry.hosts) refused.1
 
-pub free_judged : (so : How) (k : Control) (clauses : List Clause) (u : UnitState) (e : Entry) (b : Bool) (after : Control) (v : UnitState) → IsJudged so k clauses u e b after v → is_free after ≡ is_free k
-free_judged so k clauses u e false after v judged = ap is_free judged.0
-free_judged so (Going l) clauses u e true after v judged = ap is_free judged.takes ∙ free_taken judged.line l e.reply
-free_judged so (Trapped line) clauses u e true after v judged = absurd judged
-free_judged so Free clauses u e true after v judged = ap is_free judged.1
+hosts-on : (shared : Bool) (so : How) (u : UnitState) (h : ℕ) (q : Request) (r : Reply) (v : UnitState) → AnswersOn shared so u h q r v → v.registry.hosts ≡ u.registry.hosts
+hosts-on false so u h q r v answer = hosts-answer so u h q r v answer
+hosts-on true so u h q r v answer = hosts-answer so answer.from h q r v answer.answer ∙ ap (λ (x : State). x.hosts) answer.less.registry
 
-pub hosts_judged : (so : How) (k : Control) (clauses : List Clause) (u : UnitState) (e : Entry) (b : Bool) (after : Control) (v : UnitState) → IsJudged so k clauses u e b after v
-    → v.registry.hosts ≡ u.registry.hosts
-hosts_judged so k clauses u e false after v judged = ap (λ (x : UnitState). x.registry.hosts) judged.1
-hosts_judged so (Going l) clauses u e true after v judged = hosts-answer so u e.host (Plain judged.command) e.reply v judged.answer
-hosts_judged so (Trapped line) clauses u e true after v judged = absurd judged
-hosts_judged so Free clauses u e true after v judged = hosts-answer so u e.host judged.0.request e.reply v judged.0.answer
+module _ (shared : Bool) (so : How) (clauses : List Clause) (u : UnitState) (e : Entry) where
+  pub free_judged : (k : Control) (b : Bool) (after : Control) (v : UnitState) → IsJudged shared so k clauses u e b after v → is_free after ≡ is_free k
+  free_judged k false after v judged = ap is_free judged.0
+  free_judged (Going l) true after v judged = ap is_free judged.takes ∙ free_taken judged.line l e.reply
+  free_judged (Trapped line) true after v judged = absurd judged
+  free_judged Free true after v judged = ap is_free judged.1
+
+  pub hosts_judged : (k : Control) (b : Bool) (after : Control) (v : UnitState) → IsJudged shared so k clauses u e b after v → v.registry.hosts ≡ u.registry.hosts
+  hosts_judged k false after v judged = ap (λ (x : UnitState). x.registry.hosts) judged.1
+  hosts_judged (Going l) true after v judged = hosts-on shared so u e.host (Plain judged.command) e.reply v judged.answer.answer
+  hosts_judged (Trapped line) true after v judged = absurd judged
+  hosts_judged Free true after v judged = hosts-on shared so u e.host judged.0.request e.reply v judged.0.answer.answer

@@ -1,6 +1,7 @@
 -- The nexuses of a scenario by its parts.
-use Rattle.pr_audit.proofs.Common.{◌≡◌, ℕ, zero, suc, ◌<◌, true, List, [], ◌∷◌, map, length, get_or, Some, vec_len, option_map, sym, ap, ◌∙◌, subst, arith, list_all, option_map_or, nat_tests, length-map, slice_get-map, slice_get-get_or, Task, Scripted, Planned, Nexus, role, nexus, nexus_of, scenario_of, Parts}
+use Rattle.pr_audit.proofs.Common.{◌≡◌, ℕ, zero, suc, ◌<◌, true, false, List, [], ◌∷◌, map, length, get_or, Some, vec_len, option_map, sym, ap, ◌∙◌, subst, arith, list_all, option_map_or, nat_tests, length-map, slice_get-map, slice_get-get_or, Task, Scripted, Planned, Nexus, role, nexus, nexus_of, scenario_of, Parts}
 use Rattle.std.proofs.Common.{nat_le, slice_index_or}
+use Rattle.std.proofs.lemmas.List.{get_or-map}
 use Rattle.std.proofs.lemmas.Bool.{and_parts}
 use Rattle.pr_script.proofs.lemmas.Depths.FittingScripts.{shallow}
 use Rattle.pr_script.specs.Names.{is_name}
@@ -34,6 +35,13 @@ unfolding scenario_of
 role_at p h n there is =
     let among : h < length p.nexuses.items = rw (← length-map p.nexuses.items nexus_of) there in
     sym (ap (λ o. option_map_or (λ m. m.role) o []) (slice_get-map nexus_of p.nexuses.items h ∙ ap (option_map nexus_of) (slice_get-get_or p.nexuses.items h n among ∙ ap Some (sym is))))
+
+-- whether its path is shared
+pub path_at : (p : Parts) (h : ℕ) (n : NexusPart) → h < length (scenario_of p).nexuses → n ≡ get_or p.nexuses.items h n → n.shared ≡ (scenario_of p).shared h
+unfolding scenario_of
+path_at p h n there is =
+    let among : h < length p.nexuses.items = rw (← length-map p.nexuses.items nexus_of) there in
+    ap (λ (m : NexusPart). m.shared) is ∙ sym (get_or-map (λ m. m.shared) p.nexuses.items h n false among)
 
 -- ---- what fits is short
 

@@ -1,5 +1,5 @@
 -- The items that some event adds to a world are just those that may come next.
-use Rattle.pr_audit.proofs.Common.{◌≡◌, ℕ, ◌<◌, ◌≤◌, Bool, true, false, List, [], ◌∷◌, ◌++◌, length, get_or, IsTrue, slice_get, slice_set, Some, None, Option, option_map, sym, refl, ap, ◌∙◌, subst, arith, option_map_or, map-set_same, false≢true, length-map, slice_get-map, slice_get-get_or, spelling, Command, Reply, Request, Plain, UnitState, ready, Answers, how_of, may_come, Task, Scripted, Planned, Nexus, role, Scenario, Control, Going, Trapped, Free, standing_of, control_after, World, control, entry_of, Event, Host, Guest, UnitReset, Fetched, is_guest_task, Happens, Entry, How, Item, Sent, Reset, Adds, IsTried, is_free, ActFor, is_planned, IsJudged}
+use Rattle.pr_audit.proofs.Common.{◌≡◌, ℕ, ◌<◌, ◌≤◌, Bool, true, false, List, [], ◌∷◌, ◌++◌, map, length, get_or, IsTrue, slice_get, slice_set, Some, None, Option, option_map, sym, refl, ap, ◌∙◌, subst, arith, option_map_or, map-set_same, false≢true, length-map, slice_get-map, slice_get-get_or, spelling, Command, Reply, Request, Plain, UnitState, ready, Answers, AnswersOn, how_of, may_come, Task, Scripted, Planned, Nexus, role, Scenario, Control, Clause, Going, Trapped, Free, standing_of, control_after, World, control, entry_of, Event, Host, Guest, UnitReset, Fetched, is_guest_task, Happens, Entry, How, Item, Sent, Reset, Adds, AddsAfterFetches, IsWorldOf, IsTried, is_free, ActFor, is_planned, IsJudged}
 use Rattle.std.proofs.Common.{◌||◌}
 use Rattle.std.proofs.lemmas.List.{append_cancel_left}
 use Rattle.std.proofs.lemmas.Option.{slice_get_past}
@@ -10,9 +10,20 @@ use Rattle.pr_cdb.specs.declared.wire.Wire.{Wire}
 use Rattle.pr_unit.proofs.lemmas.Steps.Statuses.{steps_are_never_busy}
 use Rattle.pr_roles.specs.declared.how.How.TheVariants as how
 use Rattle.pr_roles.specs.Worlds.{GuestSends, is_guest, after as world_after}
-use Rattle.pr_audit.specs.inside.Auditing.{MayCome}
+use Rattle.pr_roles.proofs.lemmas.Worlds.Fetches.{fetches_reach_all}
+use Rattle.pr_unit.specs.Laws.{IsQuiet}
+use Rattle.pr_unit.specs.Replies.{is_good}
+use Rattle.pr_unit.specs.SharedPaths.{IsBelow}
+use Rattle.pr_unit.specs.inside.SharedStates.{IsAtMost}
+use Rattle.pr_unit.specs.UnitStates.{IsWellFormed, reset}
+use Rattle.pr_unit.proofs.lemmas.Steps.QuietSteps.{same-quiet}
+use Rattle.pr_unit.proofs.lemmas.Steps.SharedSteps.{at_most_below, below_through, reset_below, step_from_more}
+use Rattle.pr_registry.specs.Registrations.{State}
+use Rattle.pr_roles.specs.Permits.{is_permitted}
+use Rattle.pr_roles.specs.Worlds.{IsReset, after_reset, may_reset}
+use Rattle.pr_audit.specs.inside.Auditing.{MayCome, LeadsTo, LeadsToMost}
 use Rattle.pr_audit.proofs.lemmas.Auditing.Histories.{one_longer}
-use Rattle.pr_audit.proofs.lemmas.Auditing.Judgements.{may_fixed, free_judged, hosts_judged}
+use Rattle.pr_audit.proofs.lemmas.Auditing.Judgements.{may_lead, may_most, free_judged, hosts_judged}
 
 -- the world after this entry, of one that acts so then
 abbrev pub with_entry : World → Entry → Control → UnitState → World
@@ -25,7 +36,7 @@ with_entry w e after v = record {
 -- ---- what may come is added by an event
 
 adds_by : (so : How) (s : Scenario) (w : World) (e : Entry) (k after : Control) (v : UnitState) → control w e.host ≡ k → (is_free k ≡ true → is_guest s e.host ≡ true)
-    → IsTrue (may_come s w.history e.host so) → MayCome so k (role s e.host) w.unit e after v → Adds s w (Sent e) (with_entry w e after v)
+    → IsTrue (may_come s w.history e.host so) → MayCome (λ q x. Answers so w.unit e.host q e.reply x) k (role s e.host) w.unit.registry e after v → Adds s w (Sent e) (with_entry w e after v)
 adds_by so s w e (Going l) after v is guest room may =
     let takes = may.takes ∙ ap (λ k. control_after may.line k e.reply) (sym is) in
     record {
@@ -89,7 +100,7 @@ pub record Comes (s : Scenario) (w : World) (e : Entry) (x : World) : Type 0 whe
   pub room : IsTrue (may_come s w.history e.host (how_of e.reply.status))
   pub after : Control
   pub unit : UnitState
-  pub may : MayCome (how_of e.reply.status) (control w e.host) (role s e.host) w.unit e after unit
+  pub may : MayCome (λ q v. Answers (how_of e.reply.status) w.unit e.host q e.reply v) (control w e.host) (role s e.host) w.unit.registry e after unit
   pub guest : is_free (control w e.host) ≡ true → is_guest s e.host ≡ true
   pub world : x ≡ with_entry w e after unit
 
@@ -101,7 +112,7 @@ host_comes so s w h line c r v (Going l) is stands room answer =
       room = subst (λ k. IsTrue (may_come s w.history h k)) told room;
       after = control_after line (control w h) r;
       unit = v;
-      may = subst (λ k. MayCome (how_of r.status) k (role s h) w.unit (entry_of h (spelling c) r) (control_after line k r) v) (sym is)
+      may = subst (λ k. MayCome (λ q x. Answers (how_of r.status) w.unit h q r x) k (role s h) w.unit.registry (entry_of h (spelling c) r) (control_after line k r) v) (sym is)
           (record {
             line = line;
             command = c;
@@ -124,7 +135,7 @@ guest_comes so s w g wire x is sends =
       room = subst (λ k. IsTrue (may_come s w.history g k)) told sends.room;
       after = control_after 0 (control w g) sends.reply;
       unit = sends.unit;
-      may = subst (λ k. MayCome (how_of sends.reply.status) k (role s g) w.unit e (control_after 0 k sends.reply) sends.unit) (sym is) (
+      may = subst (λ k. MayCome (λ q x. Answers (how_of sends.reply.status) w.unit g q sends.reply x) k (role s g) w.unit.registry e (control_after 0 k sends.reply) sends.unit) (sym is) (
         record {
           bytes = sends.bytes;
           lengths = sends.lengths;
@@ -160,6 +171,16 @@ comes_by s w e x (Guest g wire so) free sends added =
 comes_by s w e x UnitReset free resets added =
     let same = same_item w.history x.history Reset (Sent e) (ap (λ z. z.history) resets.world) added in cc
 comes_by s w e x (Fetched h code) free fetched added = absurd (one_longer w.history (Sent e) (sym (ap (λ z. z.history) fetched.world) ∙ added))
+
+-- what adds a reset is one
+pub resets_by : (s : Scenario) (w x : World) → Adds s w Reset x → IsReset s w x
+resets_by s w x adds = by adds.event adds.happens adds.added
+  where
+    by : (event : Event) → Happens s w event x → x.history ≡ w.history ++ Reset ∷ [] → IsReset s w x
+    by UnitReset resets added = resets
+    by (Host h so) sends added = let same = same_item w.history x.history (Sent (entry_of h (spelling sends.command) sends.reply)) Reset (ap (λ z. z.history) sends.world) added in cc
+    by (Guest g wire so) sends added = let same = same_item w.history x.history (Sent (entry_of g wire sends.reply)) Reset (ap (λ z. z.history) sends.world) added in cc
+    by (Fetched h code) fetched added = absurd (one_longer w.history Reset (sym (ap (λ z. z.history) fetched.world) ∙ added))
 
 -- ---- just the guests send what they like
 
@@ -203,22 +224,154 @@ free_guests s w h acts there free = by s.nexuses there (tasks_at s w h acts)
     by [] there same = absurd (omega arith)
     by (n ∷ ns) there same = guest_by (slice_get w.controls h) (slice_get (n ∷ ns) h) (get_or (n ∷ ns) h n) same (slice_get-get_or (n ∷ ns) h n there) free
 
+-- ---- worlds in which less is pending
+
+pub acts_below : (s : Scenario) (w x : World) → IsWorldOf s w x → ActFor s w → ActFor s x
+acts_below s w x of acts = record {
+  hosts = ap (λ (r : State). r.hosts) of.below.registry ∙ acts.hosts;
+  tasks = ap (map is_free) of.controls ∙ acts.tasks;
+}
+
+-- a request that is answered so where less is pending is answered so after fetches, which leaves no less
+record IsFromMore (s : Scenario) (so : How) (u : UnitState) (h : ℕ) (q : Request) (r : Reply) (v : UnitState) : Type 0 where
+  pub state : UnitState
+  pub answer : AnswersOn (s.shared h) so u h q r state
+  pub below : IsBelow s.shared state v
+
+on_path : (b : Bool) (so : How) (u from : UnitState) (h : ℕ) (q : Request) (r : Reply) (v : UnitState) → IsAtMost b u h from → Answers so from h q r v → AnswersOn b so u h q r v
+on_path true so u from h q r v less answer = record { from = from; less = less; answer = answer }
+on_path false so u from h q r v same answer = subst (λ x. Answers so x h q r v) same answer
+
+same_most : (b : Bool) (u : UnitState) (h : ℕ) → IsAtMost b u h u
+same_most true u h = same-quiet u h
+same_most false u h = refl
+
+answers_from_more : (s : Scenario) (so : How) (u x : UnitState) (h : ℕ) (q : Request) (r : Reply) (v : UnitState) → IsBelow s.shared u x → Answers so x h q r v → IsFromMore s so u h q r v
+answers_from_more s how.Plain u x h q r v below step =
+    let more = step_from_more s.shared u x h below q r v step in
+    record { state = more.after; answer = on_path (s.shared h) how.Plain u more.from h q r more.after more.less more.step; below = more.below }
+answers_from_more s how.Busy u x h q r v below refused = record {
+  state = u;
+  answer = on_path (s.shared h) how.Busy u u h q r u (same_most (s.shared h) u h) (refused.0, refl);
+  below = subst (IsBelow s.shared u) (sym refused.1) below;
+}
+answers_from_more s how.Full u x h q r v below refused = record {
+  state = u;
+  answer = on_path (s.shared h) how.Full u u h q r u (same_most (s.shared h) u h) (refused.0, refl);
+  below = subst (IsBelow s.shared u) (sym refused.1) below;
+}
+
+-- the same of an entry
+record MayComeFromMore (s : Scenario) (so : How) (k : Control) (clauses : List Clause) (u : UnitState) (e : Entry) (after : Control) (v : UnitState) : Type 0 where
+  pub state : UnitState
+  pub may : MayCome (LeadsTo (s.shared e.host) so u e) k clauses u.registry e after state
+  pub below : IsBelow s.shared state v
+
+may_from_more : (s : Scenario) (so : How) (k : Control) (clauses : List Clause) (u x : UnitState) (e : Entry) (after : Control) (v : UnitState) → IsBelow s.shared u x
+    → MayCome (λ q y. Answers so x e.host q e.reply y) k clauses x.registry e after v → MayComeFromMore s so k clauses u e after v
+may_from_more s so (Going l) clauses u x e after v below may =
+    let more = answers_from_more s so u x e.host (Plain may.command) e.reply v below may.answer in
+    record { state = more.state; may = record { line = may.line; command = may.command; ready = may.ready; wire = may.wire; answer = more.answer; takes = may.takes }; below = more.below }
+may_from_more s so (Trapped line) clauses u x e after v below may = absurd may
+may_from_more s so Free clauses u x e after v below may =
+    let more = answers_from_more s so u x e.host may.0.request e.reply v below may.0.answer in
+    record {
+      state = more.state;
+      may = (
+        record {
+          bytes = may.0.bytes;
+          lengths = may.0.lengths;
+          request = may.0.request;
+          read = may.0.read;
+          answer = more.answer;
+          permitted = subst (λ (r : State). is_good e.reply ≡ true → IsTrue (is_permitted clauses r e.host may.0.request)) below.registry may.0.permitted;
+        },
+        may.1,
+      );
+      below = more.below;
+    }
+
+-- ---- what may come is added after fetches
+
+module _ (s : Scenario) (w : World) (e : Entry) (k after : Control) (v : UnitState) (formed : IsWellFormed w.unit) (is : control w e.host ≡ k) (guest : is_free k ≡ true → is_guest s e.host ≡ true)
+    (room : IsTrue (may_come s w.history e.host (how_of e.reply.status))) where
+  abbrev so : How
+  so = how_of e.reply.status
+
+  -- of one that is answered from this state
+  from_there : (from : UnitState) → IsTrue (s.shared e.host) → IsQuiet w.unit e.host from → MayCome (λ q x. Answers so from e.host q e.reply x) k (role s e.host) from.registry e after v
+      → AddsAfterFetches s w (Sent e) (with_entry w e after v)
+  from_there from shares less may =
+      let fetched = fetches_reach_all s w e.host from shares formed less in
+      record {
+        events = fetched.0;
+        from = from;
+        fetches = fetched.1;
+        registry = less.registry;
+        adds = adds_by so s (record w { unit = from }) e k after v is guest room may;
+      }
+
+  shared_adds : IsTrue (s.shared e.host) → (k' : Control) → k ≡ k' → MayCome (LeadsToMost true so w.unit e) k' (role s e.host) w.unit.registry e after v → AddsAfterFetches s w (Sent e) (with_entry w e after v)
+  shared_adds shares (Going l) same may =
+      let answer = may.answer.answer in
+      from_there answer.from shares answer.less (subst (λ c. MayCome (λ q x. Answers so answer.from e.host q e.reply x) c (role s e.host) answer.from.registry e after v) (sym same)
+      (record { line = may.line; command = may.command; ready = may.ready; wire = may.wire; answer = answer.answer; takes = may.takes }))
+  shared_adds shares (Trapped line) same may = absurd may
+  shared_adds shares Free same may =
+      let answer = may.0.answer.answer in
+      from_there answer.from shares answer.less (subst (λ c. MayCome (λ q x. Answers so answer.from e.host q e.reply x) c (role s e.host) answer.from.registry e after v) (sym same) (
+        record {
+          bytes = may.0.bytes;
+          lengths = may.0.lengths;
+          request = may.0.request;
+          read = may.0.read;
+          answer = answer.answer;
+          permitted = subst (λ (r : State). is_good e.reply ≡ true → IsTrue (is_permitted (role s e.host) r e.host may.0.request)) (sym answer.less.registry) may.0.permitted;
+        },
+        may.1,
+      ))
+
+  pub judged_adds : (shared : Bool) → s.shared e.host ≡ shared → MayCome (LeadsToMost shared so w.unit e) k (role s e.host) w.unit.registry e after v → AddsAfterFetches s w (Sent e) (with_entry w e after v)
+  judged_adds true shares may = shared_adds shares k refl may
+  judged_adds false alone may = record {
+    events = [];
+    from = w.unit;
+    fetches = refl;
+    registry = refl;
+    adds = adds_by so s w e k after v is guest room (may_lead k (role s e.host) w.unit.registry w.unit.registry e after v v (LeadsToMost false so w.unit e) (λ q x. Answers so w.unit e.host q e.reply x) refl (λ q most. most.answer) may);
+  }
+
 -- ---- an entry that was judged
 
 pub comes : (s : Scenario) (w : World) (e : Entry) (x : World) → ActFor s w → Adds s w (Sent e) x → Comes s w e x
 comes s w e x acts adds = comes_by s w e x adds.event (guests_free s w acts) adds.happens adds.added
 
-pub judged_tried : (s : Scenario) (w : World) (e : Entry) (k after : Control) (b : Bool) (v : UnitState) → ActFor s w → e.host < length s.nexuses → control w e.host ≡ k
-    → IsTrue (may_come s w.history e.host (how_of e.reply.status)) → IsJudged (how_of e.reply.status) k (role s e.host) w.unit e b after v → IsTried s w (Sent e) b (with_entry w e after v)
-judged_tried s w e k after true v acts there is room may = (
-  adds_by (how_of e.reply.status) s w e k after v is (λ free. free_guests s w e.host acts there (ap is_free is ∙ free)) room may,
-  λ x adds. let c = comes s w e x acts adds in
-      let fixed = may_fixed (how_of e.reply.status) k (role s e.host) w.unit e after c.after v c.unit may (subst (λ k. MayCome (how_of e.reply.status) k (role s e.host) w.unit e c.after c.unit) is c.may) in
-      c.world ∙ (λ i. with_entry w e (fixed.0 i) (fixed.1 i)),
+-- in a world in which less is pending
+comes_below : (s : Scenario) (w x : World) (e : Entry) (k : Control) (y : World) → ActFor s w → control w e.host ≡ k → IsWorldOf s w x → (c : Comes s x e y)
+    → MayComeFromMore s (how_of e.reply.status) k (role s e.host) w.unit e c.after c.unit
+comes_below s w x e k y acts is of c =
+    may_from_more s (how_of e.reply.status) k (role s e.host) w.unit x.unit e c.after c.unit of.below
+    (subst (λ m. MayCome (λ q v. Answers (how_of e.reply.status) x.unit e.host q e.reply v) m (role s e.host) x.unit.registry e c.after c.unit) (ap (λ ks. option_map_or (λ m. m) (slice_get ks e.host) Free) of.controls ∙ is) c.may)
+
+pub judged_tried : (s : Scenario) (w : World) (e : Entry) (k after : Control) (b : Bool) (v : UnitState) → IsWellFormed w.unit → ActFor s w → e.host < length s.nexuses → control w e.host ≡ k
+    → IsTrue (may_come s w.history e.host (how_of e.reply.status)) → IsJudged (s.shared e.host) (how_of e.reply.status) k (role s e.host) w.unit e b after v → IsTried s w (Sent e) b (with_entry w e after v)
+judged_tried s w e k after true v formed acts there is room may = (
+  judged_adds s w e k after v formed is (λ free. free_guests s w e.host acts there (ap is_free is ∙ free)) room (s.shared e.host) refl may,
+  λ x y of adds.
+      let c = comes s x e y (acts_below s w x of acts) adds in
+      let more = comes_below s w x e k y acts is of c in
+      let most = may_most (s.shared e.host) (how_of e.reply.status) w.unit e k (role s e.host) after c.after v more.state may more.may in
+      subst (IsWorldOf s (with_entry w e after v)) (sym c.world) (record {
+        below = below_through s.shared v more.state c.unit (at_most_below s.shared v e.host more.state most.1) more.below;
+        controls = λ i. slice_set (of.controls i) e.host (most.0 i);
+        history = ap (λ es. es ++ Sent e ∷ []) of.history;
+      }),
 )
-judged_tried s w e k after false v acts there is room not =
-    λ x adds. let c = comes s w e x acts adds in
-    not.2 c.after c.unit (subst (λ k. MayCome (how_of e.reply.status) k (role s e.host) w.unit e c.after c.unit) is c.may)
+judged_tried s w e k after false v formed acts there is room not =
+    λ x y of adds.
+    let c = comes s x e y (acts_below s w x of acts) adds in
+    let more = comes_below s w x e k y acts is of c in
+    not.2 c.after more.state more.may
 
 -- nobody sends under a number past the last
 pub none_past : (s : Scenario) (w : World) (e : Entry) (x : World) → ActFor s w → length s.nexuses ≤ e.host → Adds s w (Sent e) x → ⊥
@@ -232,8 +385,24 @@ none_past s w e x acts past adds =
 
 -- whatever the answer, there is still one for each that the scenario declares
 pub judged_acts : (s : Scenario) (w : World) (e : Entry) (k after : Control) (b : Bool) (v : UnitState) (es : List Item) → ActFor s w → get_or w.controls e.host k ≡ k
-    → IsJudged (how_of e.reply.status) k (role s e.host) w.unit e b after v → ActFor s (record { unit = v; controls = slice_set w.controls e.host after; history = es })
+    → IsJudged (s.shared e.host) (how_of e.reply.status) k (role s e.host) w.unit e b after v → ActFor s (record { unit = v; controls = slice_set w.controls e.host after; history = es })
 judged_acts s w e k after b v es acts is judged = record {
-  hosts = hosts_judged (how_of e.reply.status) k (role s e.host) w.unit e b after v judged ∙ acts.hosts;
-  tasks = map-set_same is_free w.controls e.host after k (free_judged (how_of e.reply.status) k (role s e.host) w.unit e b after v judged ∙ ap is_free (sym is)) ∙ acts.tasks;
+  hosts = hosts_judged (s.shared e.host) (how_of e.reply.status) (role s e.host) w.unit e k b after v judged ∙ acts.hosts;
+  tasks = map-set_same is_free w.controls e.host after k (free_judged (s.shared e.host) (how_of e.reply.status) (role s e.host) w.unit e k b after v judged ∙ ap is_free (sym is)) ∙ acts.tasks;
 }
+
+-- ---- a reset
+
+pub reset_tried : (s : Scenario) (w : World) (b : Bool) (v : UnitState) → b ≡ may_reset s w.history → b ≡ true → v ≡ reset w.unit → IsTried s w Reset b (record { unit = v; controls = w.controls; history = w.history ++ Reset ∷ [] })
+reset_tried s w false v may is after = absurd (false≢true is)
+reset_tried s w true v may is after = subst (λ u. IsTried s w Reset true (record { unit = u; controls = w.controls; history = w.history ++ Reset ∷ [] })) (sym after) (
+  record { events = []; from = w.unit; fetches = refl; registry = refl; adds = record { event = UnitReset; happens = record { room = sym may; world = refl }; added = refl } },
+  λ x y of adds. only_reset x y of (resets_by s x y adds),
+)
+  where
+    only_reset : (x y : World) → IsWorldOf s w x → IsReset s x y → IsWorldOf s (after_reset w) y
+    only_reset x y of is = subst (IsWorldOf s (after_reset w)) (sym is.world) (record {
+      below = reset_below s.shared w.unit x.unit of.below;
+      controls = of.controls;
+      history = ap (λ es. es ++ Reset ∷ []) of.history;
+    })

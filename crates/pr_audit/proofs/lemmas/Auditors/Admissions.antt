@@ -1,13 +1,14 @@
 -- An entry that one among the senders was asked for.
-use Rattle.pr_audit.proofs.Common.{◌≡◌, ℕ, ◌<◌, ◌≤◌, Bool, true, false, List, [], ◌∷◌, ◌++◌, map, length, get_or, IsTrue, slice_set, Some, vec_len, sym, refl, ap, ◌∙◌, subst, arith, false≢true, option_map_or, get_or-map, length-map, map-set, slice_get-get_or, map-set_same, slice_get, UnitState, how_of, may_come, Task, Scripted, Planned, Nexus, role, Scenario, scenario_of, Free, World, control, control_of, Entry, How, Item, Sent, Parts, control_by, Adds, IsTried, is_free, ActFor, is_planned, IsJudged}
+use Rattle.pr_audit.proofs.Common.{◌≡◌, ℕ, ◌<◌, ◌≤◌, Bool, true, false, List, [], ◌∷◌, ◌++◌, map, length, get_or, IsTrue, slice_set, Some, vec_len, sym, refl, ap, ◌∙◌, subst, arith, false≢true, option_map_or, get_or-map, length-map, map-set, slice_get-get_or, map-set_same, slice_get, UnitState, how_of, may_come, Task, Scripted, Planned, Nexus, role, Scenario, scenario_of, Free, World, control, control_of, Entry, How, Item, Sent, Parts, control_by, Adds, IsWorldOf, IsTried, is_free, ActFor, is_planned, IsJudged}
 use Rattle.std.proofs.Common.{Vec, Global}
 use Rattle.std.proofs.lemmas.List.{length-set, get_or-set_same}
+use Rattle.pr_unit.specs.UnitStates.{IsWellFormed}
 use Rattle.pr_roles.specs.declared.parts.Nexus.{Nexus as NexusPart}
 use Rattle.pr_audit.specs.declared.sender.Sender.{Sender}
 use Rattle.pr_audit.specs.Auditors.{IsPast}
 use Rattle.pr_audit.specs.inside.Auditing.{AreFirstSenders}
-use Rattle.pr_audit.proofs.lemmas.Auditing.Parts.{count_of_parts, role_at}
-use Rattle.pr_audit.proofs.lemmas.Auditors.Additions.{judged_tried, judged_acts, comes, none_past}
+use Rattle.pr_audit.proofs.lemmas.Auditing.Parts.{count_of_parts, path_at, role_at}
+use Rattle.pr_audit.proofs.lemmas.Auditors.Additions.{judged_tried, judged_acts, acts_below, comes, none_past}
 
 -- ---- the senders
 
@@ -57,15 +58,16 @@ sender_within s u senders es h i acts at there =
     omega arith
 
 pub nobody_tried : (p q : Parts) (u : UnitState) (senders : List Sender) (e : Entry) (i n : ℕ) → ActFor (scenario_of p) (world_of u senders []) → q ≡ p → i ≡ e.host → n ≡ vec_len q.nexuses → n ≤ i
-    → (before : List Item) (x : World) → Adds (scenario_of p) (world_of u senders before) (Sent e) x → ⊥
-nobody_tried p q u senders e i n acts same at len past before x adds =
-    none_past (scenario_of p) (world_of u senders before) e x (others_acts (scenario_of p) u senders [] before acts) (past_parts p q e.host i n same at len past) adds
+    → (before : List Item) (x y : World) → IsWorldOf (scenario_of p) (world_of u senders before) x → Adds (scenario_of p) x (Sent e) y → ⊥
+nobody_tried p q u senders e i n acts same at len past before x y of adds =
+    none_past (scenario_of p) x e y (acts_below (scenario_of p) (world_of u senders before) x of (others_acts (scenario_of p) u senders [] before acts)) (past_parts p q e.host i n same at len past) adds
 
 -- a refusal of which none is left
 pub none_tried : (so : How) (s : Scenario) (u : UnitState) (senders : List Sender) (e : Entry) (before : List Item) → ActFor s (world_of u senders []) → so ≡ how_of e.reply.status
-    → may_come s before e.host so ≡ false → (x : World) → Adds s (world_of u senders before) (Sent e) x → ⊥
-none_tried so s u senders e before acts told over x adds =
-    false≢true (sym (subst (λ k. may_come s before e.host k ≡ false) told over) ∙ (comes s (world_of u senders before) e x (others_acts s u senders [] before acts) adds).room)
+    → may_come s before e.host so ≡ false → (x y : World) → IsWorldOf s (world_of u senders before) x → Adds s x (Sent e) y → ⊥
+none_tried so s u senders e before acts told over x y of adds =
+    let room = (comes s x e y (acts_below s (world_of u senders before) x of (others_acts s u senders [] before acts)) adds).room in
+    false≢true (sym (subst (λ k. may_come s before e.host k ≡ false) told over) ∙ ap (λ es. may_come s es e.host (how_of e.reply.status)) (sym of.history) ∙ room)
 
 -- ---- the sender at a place
 
@@ -85,17 +87,18 @@ controls_with senders h i y at = map-set control_by senders i y ∙ ap (λ j. sl
 
 module _ (so : How) (p q : Parts) (u v : UnitState) (senders : List Sender) (e : Entry) (i : ℕ) (n : NexusPart) (x y : Sender) (b : Bool) (acts : ActFor (scenario_of p) (world_of u senders []))
     (there : e.host < length (scenario_of p).nexuses) (same : q ≡ p) (at : i ≡ e.host) (nexus : n ≡ get_or q.nexuses.items i n) (participation : x ≡ get_or senders i x)
-    (told : so ≡ how_of e.reply.status) (judged : IsJudged so (control_by x) n.role.clauses.items u e b (control_by y) v) where
-  by_role : IsJudged (how_of e.reply.status) (control_by x) (role (scenario_of p) e.host) u e b (control_by y) v
+    (told : so ≡ how_of e.reply.status) (judged : IsJudged n.shared so (control_by x) n.role.clauses.items u e b (control_by y) v) where
+  by_role : IsJudged ((scenario_of p).shared e.host) (how_of e.reply.status) (control_by x) (role (scenario_of p) e.host) u e b (control_by y) v
   by_role =
       let named = nexus ∙ (ap (λ r. get_or r.nexuses.items i n) same ∙ ap (λ j. get_or p.nexuses.items j n) at) in
-      subst (λ clauses. IsJudged (how_of e.reply.status) (control_by x) clauses u e b (control_by y) v) (role_at p e.host n there named)
-      (subst (λ k. IsJudged k (control_by x) n.role.clauses.items u e b (control_by y) v) told judged)
+      subst (λ shared. IsJudged shared (how_of e.reply.status) (control_by x) (role (scenario_of p) e.host) u e b (control_by y) v) (path_at p e.host n there named)
+      (subst (λ clauses. IsJudged n.shared (how_of e.reply.status) (control_by x) clauses u e b (control_by y) v) (role_at p e.host n there named)
+      (subst (λ k. IsJudged n.shared k (control_by x) n.role.clauses.items u e b (control_by y) v) told judged))
 
-  pub sender_tried : (before : List Item) → may_come (scenario_of p) before e.host so ≡ true → IsTried (scenario_of p) (world_of u senders before) (Sent e) b (world_of v (slice_set senders i y) (before ++ Sent e ∷ []))
-  sender_tried before room =
+  pub sender_tried : IsWellFormed u → (before : List Item) → may_come (scenario_of p) before e.host so ≡ true → IsTried (scenario_of p) (world_of u senders before) (Sent e) b (world_of v (slice_set senders i y) (before ++ Sent e ∷ []))
+  sender_tried formed before room =
       subst (λ ks. IsTried (scenario_of p) (world_of u senders before) (Sent e) b (record { unit = v; controls = ks; history = before ++ Sent e ∷ [] })) (sym (controls_with senders e.host i y at))
-      (judged_tried (scenario_of p) (world_of u senders before) e (control_by x) (control_by y) b v (others_acts (scenario_of p) u senders [] before acts) there (control_at (scenario_of p) u senders before e.host i x acts there at participation)
+      (judged_tried (scenario_of p) (world_of u senders before) e (control_by x) (control_by y) b v formed (others_acts (scenario_of p) u senders [] before acts) there (control_at (scenario_of p) u senders before e.host i x acts there at participation)
       (subst (λ k. IsTrue (may_come (scenario_of p) before e.host k)) told room) by_role)
 
   pub sender_acts : ActFor (scenario_of p) (world_of v (slice_set senders i y) [])

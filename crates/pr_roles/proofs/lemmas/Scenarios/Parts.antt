@@ -3,7 +3,6 @@ use Rattle.pr_roles.proofs.Common.{◌≡◌, ◌≤◌, length, nat_le, ◌==�
 use Rattle.std.proofs.lemmas.Bool.{leb-true}
 use Rattle.pr_roles.specs.declared.limits.TheConstants.{MOST_KEYS}
 use Rattle.pr_roles.specs.Fitting.{AreDeclared}
-use Rattle.pr_roles.specs.Laws.{NobodyShares}
 
 pub keys_are : (p : Parts) → (scenario_of p).keys ≡ p.keys.items
 unfolding scenario_of
@@ -21,7 +20,3 @@ few_of_parts p fits =
 pub count_of_parts : (p : Parts) → length (scenario_of p).nexuses ≡ length p.nexuses.items
 unfolding scenario_of
 count_of_parts p = length-map p.nexuses.items nexus_of
-
-pub unshared_parts : (p : Parts) → NobodyShares (scenario_of p)
-unfolding scenario_of
-unshared_parts p h = refl

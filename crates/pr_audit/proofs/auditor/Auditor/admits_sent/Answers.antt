@@ -20,7 +20,7 @@ pub returns-clause-tried : goal.returns-clause-tried
 returns-clause-tried c =
     let there = within_parts _ _ _ _ _ c.parts.ensures.value c.from-index.ensures c.len.ensures c.if-index-len.false in
     sender_tried c.of-how.result _ _ _ _ _ _ _ _ _ _ _ c.requires there c.parts.ensures.value c.from-index.ensures c.index.ensures c.index_mut.ensures.value c.of-how.ensures c.sends.ensures.judged
-    c.args.before.now (sym c.may_come.ensures ∙ c.if-not-may_come.false)
+    c.registry.ensures.well_formed c.args.before.now (sym c.may_come.ensures ∙ c.if-not-may_come.false)
 
 pub returns-clause-acts : goal.returns-clause-acts
 returns-clause-acts c =
