@@ -44,8 +44,8 @@ pub record IsWorldOf (s : Scenario) (w v : World) : Type 0 where
   pub controls : v.controls ≡ w.controls
   pub history : v.history ≡ w.history
 
--- True: fetches and some event add it and lead here, and this stands for whatever an event leads to that adds it to a world for which
--- w stands. False: no event adds it to any of them.
+-- True: fetches and some event add it and lead here, and this stands for whatever an event leads to that adds it to a world for
+-- which w stands. False: no event adds it to any of them.
 abbrev pub IsTried : Scenario → World → Item → Bool → World → Type 0
 IsTried s w i true v = AddsAfterFetches s w i v × ((x y : World) → IsWorldOf s w x → Adds s x i y → IsWorldOf s v y)
 IsTried s w i false v = (x y : World) → IsWorldOf s w x → Adds s x i y → ⊥

@@ -83,8 +83,8 @@ impl Sender {
         }
     }
 
-    /// Whether it may have sent this entry, and may have been answered so, on a path that is shared or is not. Where it may, it goes
-    /// past the entry, as the unit does; else nothing changes.
+    /// Whether it may have sent this entry, and may have been answered so, on a path that is shared or is not. Where it may, it
+    /// goes past the entry, as the unit does; else nothing changes.
     pub(crate) fn sends(
         &mut self,
         unit: &mut Unit,
