@@ -6,7 +6,7 @@ ghost use Rattle.pr_roles.specs.FirstStarts.{first_state};
 ghost use Rattle.pr_roles.specs.Worlds.{control};
 ghost use Rattle.pr_audit.specs.Auditors.{IsAuditorOf, IsPast, IsTriedAfter, StartsAt, send_of, world_at};
 ghost use Rattle.pr_audit.specs.Ends.{IsEndBy};
-ghost use Rattle.pr_audit.specs.inside.Auditing.{AreFirstSenders};
+ghost use Rattle.pr_audit.specs.inside.Auditing.{AreFirstSenders, TriesBy, TriesServed};
 
 use crate::end::End;
 use crate::refusing::may_come;
@@ -126,18 +126,41 @@ impl Auditor {
             self.new }
         ensures acts { IsAuditorOf scenario.now self.new }
     {
-        let index = usize::from(entry.host);
-        let nexuses = &scenario.parts().nexuses;
-        if index >= nexuses.len() {
+        if usize::from(entry.host) >= scenario.parts().nexuses.len() {
             return false;
         }
         let how = How::of(entry.reply.status);
+        match how {
+            How::Plain | How::Early => self.admits_served(scenario, before, entry),
+            How::Busy | How::Full => self.admits_as(scenario, before, entry, how),
+        }
+    }
+
+    // The same of one that the unit answers: in the order of SAM-5, or by a report before it looks at the reservation.
+    fn admits_served(&mut self, scenario: &Scenario, before: &[Item], entry: &Entry) -> bool
+        requires acts { IsAuditorOf scenario.now self.old }
+        requires there { entry.now.host < length (scenario_of scenario.now).nexuses }
+        ensures tried { TriesServed scenario.now before.now entry.now result self.old self.new }
+        ensures acts { IsAuditorOf scenario.now self.new }
+    {
+        self.admits_as(scenario, before, entry, How::Plain)
+            || self.admits_as(scenario, before, entry, How::Early)
+    }
+
+    // The same of one that is answered so. Where it may not be, nothing changes.
+    fn admits_as(&mut self, scenario: &Scenario, before: &[Item], entry: &Entry, how: How) -> bool
+        requires acts { IsAuditorOf scenario.now self.old }
+        requires there { entry.now.host < length (scenario_of scenario.now).nexuses }
+        ensures tried { TriesBy how scenario.now before.now entry.now result self.old self.new }
+        ensures acts { IsAuditorOf scenario.now self.new }
+    {
         if !may_come(scenario, before, entry.host, how) {
             return false;
         }
         // A unit says with its registry that it is well formed.
         let _ = self.unit.registry();
-        let Nexus { role, shared, .. } = &nexuses[index];
+        let index = usize::from(entry.host);
+        let Nexus { role, shared, .. } = &scenario.parts().nexuses[index];
         self.senders[index].sends(&mut self.unit, role, entry, how, *shared)
     }
 

@@ -27,8 +27,15 @@ pub fn may_come(scenario: &Scenario, history: &[Item], host: u8, how: How) -> bo
     requires { host < length (scenario_of scenario.now).nexuses }
     ensures { result ≡ may_come (scenario_of scenario.now) history.now host how }
 {
-    let nexus = &scenario.parts().nexuses[usize::from(host)];
-    how.status().is_none() || refusals_by(history, host, how) < nexus.most_refusals(how) as usize
+    let parts = scenario.parts();
+    match how {
+        How::Plain => true,
+        How::Early => parts.early,
+        How::Busy | How::Full => {
+            let most = parts.nexuses[usize::from(host)].most_refusals(how);
+            refusals_by(history, host, how) < most as usize
+        }
+    }
 }
 
 // How many commands of the nexus were refused so.

@@ -144,10 +144,14 @@ fn is_answered(unit: &mut Unit, entry: &Entry, how: How, shared: bool) -> bool
     requires { entry.now.host < unit.old.registry.hosts }
     ensures { IsAnswered shared how unit.old entry.now result unit.new }
 {
-    match how.status() {
-        None if shared => unit.follow_shared(entry.host, &entry.wire, &entry.reply),
-        None => unit.follow(entry.host, &entry.wire, &entry.reply),
-        Some(status) => is_refused(&entry.reply, status),
+    let Entry { host, wire, reply } = entry;
+    match how {
+        How::Plain if shared => unit.follow_shared(*host, wire, reply),
+        How::Plain => unit.follow(*host, wire, reply),
+        How::Early if shared => unit.follow_early_shared(*host, wire, reply),
+        How::Early => unit.follow_early(*host, wire, reply),
+        How::Busy => is_refused(reply, Status::Busy),
+        How::Full => is_refused(reply, Status::TaskFull),
     }
 }
 

@@ -62,7 +62,7 @@ pub use Rattle.pr_domain.specs.declared.tally.Tally.{Tally}
 pub use Rattle.pr_domain.specs.inside.Beginning.{may_have, has_reservation, AreAlternatives}
 pub use Rattle.pr_domain.specs.inside.Reporting.{AreReported, HasOutcome, AreKept, AreMore, HasWords, Ending, Reports, Conflicts, Fails, EndsGood, Refuses, refusal, MayReport, Ends, landing_at, LandsBy, LandsSomehow, LandsGood, IsOfWay}
 pub use Rattle.pr_domain.specs.inside.Sendings.{scope_of_sending, view_of_sending, IsOfWayAt, LandsOf}
-pub use Rattle.pr_domain.specs.inside.Tallies.{IsRegistered, has_part, has_tallied, arm_of, Leaves, IsFound, Grows, IsRight, IsTally, HasBoth, HasOneOf, IsUnder, IsReserved, IsOwners, scope_at, IsOfScope, IsReadAt}
+pub use Rattle.pr_domain.specs.inside.Tallies.{IsRegistered, has_part, has_tallied, arm_of, Leaves, IsFound, Grows, IsRight, IsTally, HasBoth, HasOneOf, IsUnder, IsReserved, IsOwners, scope_at, IsOfScope, IsReadAt, way_for}
 pub use Rattle.pr_views.specs.declared.view.TheConstants.{ATTENTION_SETS, MOST_REGISTRATIONS}
 pub use Rattle.pr_script.specs.declared.limits.TheConstants.{MOST_ARMS}
 pub use Rattle.pr_roles.specs.declared.limits.TheConstants.{MOST_KEYS}

@@ -19,7 +19,8 @@ use pr_views::{Possibilities, ViewOf};
 use std::alloc::{AllocError, Global};
 
 /// What a host's own command may come to in the states that its view shows: each landing with the view of the states
-/// that it leaves, and each landing once. `refusals` says which of BUSY and TASK SET FULL the host may meet.
+/// that it leaves, and each landing once. `refusals` says which of BUSY and TASK SET FULL the host may meet, and whether the unit
+/// may report an attention to it before it looks at the reservation.
 pub fn outcomes<S: ViewSet>(
     alloc: Global,
     view: &ViewOf<S>,

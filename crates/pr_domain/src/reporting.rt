@@ -1,6 +1,6 @@
 //! The outcomes of a command, from the tally of its ways to end.
 
-ghost use Rattle.std.specs.Prelude.{◌≡◌, ◌≤◌, ◌<◌, ℕ, true, List, Some};
+ghost use Rattle.std.specs.Prelude.{◌≡◌, ◌≤◌, ◌<◌, ℕ, true, false, List, Some};
 ghost use Rattle.std.specs.List.{All};
 ghost use Rattle.pr_cdb.specs.declared.reply.Sense.{Sense};
 ghost use Rattle.pr_attention.specs.Attentions.{code_of};
@@ -12,6 +12,7 @@ ghost use Rattle.pr_script.specs.Grammar.{is_written, test_fits};
 ghost use Rattle.pr_unit.specs.Conduct.{command_fault};
 ghost use Rattle.pr_unit.specs.Replies.{report};
 ghost use Rattle.pr_domain.specs.Landings.{IsClass};
+ghost use Rattle.pr_domain.specs.inside.Tallies.{way_for};
 ghost use Rattle.pr_domain.specs.inside.Reporting.{AreKept, AreBlind, AreMore, AreCalm, AreQuiet, Reports, Conflicts, Fails, EndsGood, Refuses, refusal, IsLater};
 
 use crate::arms::landing_of;
@@ -64,6 +65,14 @@ impl Unserved {
     }
 }
 
+// Where the tally has what is so of states in which the command conflicts, or of those in which it doesn't.
+fn way_for(conflicting: bool) -> usize
+    ensures way { result ≡ way_for conflicting }
+    ensures few { result ≤ 1 }
+{
+    if conflicting { 0 } else { 1 }
+}
+
 /// The sense of the command's fault, where it can be at fault.
 fn fault_of(command: &Command) -> Option<Sense>
     ensures { (keys : List ℕ) (u : State) (h : ℕ) (x : Sense) → is_written keys command.now ≡ true
@@ -103,7 +112,7 @@ pub(crate) struct Sending<'a> {
 impl Sending<'_> {
     ghost use Rattle.std.specs.Prelude.{IfOk, OnOk};
     ghost use Rattle.pr_attention.specs.declared.attention.Attention.TheVariants.{PowerOn};
-    ghost use Rattle.pr_domain.specs.inside.Sendings.{scope_of_sending, IsOfWayAt, Adds, AddsGood, AddsIf, AreOutcomesOf};
+    ghost use Rattle.pr_domain.specs.inside.Sendings.{scope_of_sending, IsOfWayAt, Adds, AddsGood, AddsIf, AddsEarly, AreOutcomesOf};
 
     // Adds what one way to end leaves, beside these attentions.
     fn add(
@@ -130,7 +139,7 @@ impl Sending<'_> {
     fn add_power_on(&self, outcomes: &mut Vec<(Landing, Possibilities)>) -> Result<(), AllocError>
         requires kept { AreKept outcomes.old.items }
         ensures kept { OnOk result (AreKept outcomes.new.items) }
-        ensures more { OnOk result (Adds self.now (Reports PowerOn) outcomes.old.items
+        ensures more { OnOk result (Adds self.now (Reports false PowerOn) outcomes.old.items
             outcomes.new.items) }
     {
         let class = class_of_report(&self.asked.command, Attention::PowerOn);
@@ -143,22 +152,39 @@ impl Sending<'_> {
         Ok(())
     }
 
-    // Adds where the report of another attention lands.
+    // Adds where the report of another attention lands, of a command that conflicts or does not.
     fn add_report(
         &self,
         outcomes: &mut Vec<(Landing, Possibilities)>,
         attention: Attention,
+        conflicting: bool,
     ) -> Result<(), AllocError>
         requires later { IsLater attention }
         requires kept { AreKept outcomes.old.items }
         ensures kept { OnOk result (AreKept outcomes.new.items) }
-        ensures more { OnOk result (Adds self.now (Reports attention) outcomes.old.items
+        ensures more { OnOk result (Adds self.now (Reports conflicting attention) outcomes.old.items
             outcomes.new.items) }
     {
         let class = class_of_report(&self.asked.command, attention);
         let landing = landing_of(self.asked.tests, class);
         let pending = after_report(self.calm(), attention);
-        self.add(outcomes, landing, &self.tally.way(1), pending)?;
+        let way = self.tally.way(way_for(conflicting));
+        self.add(outcomes, landing, &way, pending)?;
+        Ok(())
+    }
+
+    // Adds where a report lands that comes though the command conflicts, where the unit may report so.
+    fn add_early(&self, outcomes: &mut Vec<(Landing, Possibilities)>) -> Result<(), AllocError>
+        requires kept { AreKept outcomes.old.items }
+        ensures kept { OnOk result (AreKept outcomes.new.items) }
+        ensures more { OnOk result (AddsEarly self.now outcomes.old.items outcomes.new.items) }
+    {
+        if !self.refusals.early {
+            return Ok(());
+        }
+        self.add_report(outcomes, Attention::ReservationsPreempted, true)?;
+        self.add_report(outcomes, Attention::ReservationsReleased, true)?;
+        self.add_report(outcomes, Attention::RegistrationsPreempted, true)?;
         Ok(())
     }
 
@@ -270,9 +296,10 @@ impl Sending<'_> {
         self.add_all_good(&mut outcomes)?;
         self.add_conflict(&mut outcomes)?;
         self.add_power_on(&mut outcomes)?;
-        self.add_report(&mut outcomes, Attention::ReservationsPreempted)?;
-        self.add_report(&mut outcomes, Attention::ReservationsReleased)?;
-        self.add_report(&mut outcomes, Attention::RegistrationsPreempted)?;
+        self.add_report(&mut outcomes, Attention::ReservationsPreempted, false)?;
+        self.add_report(&mut outcomes, Attention::ReservationsReleased, false)?;
+        self.add_report(&mut outcomes, Attention::RegistrationsPreempted, false)?;
+        self.add_early(&mut outcomes)?;
         self.add_fault(&mut outcomes)?;
         self.add_declared(&mut outcomes, self.refusals.busy, Unserved::Busy)?;
         self.add_declared(&mut outcomes, self.refusals.full, Unserved::Full)?;

@@ -25,13 +25,9 @@ pub(crate) struct RefusedSend<'a> {
     pub row: &'a Row,
     /// The class of the reply without an arm; none where the role doesn't permit the command.
     pub unarmed: Option<Class>,
+    /// What hangs on the state of the unit alone: nobody is refused, since that hangs on none.
+    refusals: Refusals,
 }
-
-// Nobody is refused, since that hangs on no state of the unit.
-const NEVER_REFUSED: Refusals = Refusals {
-    busy: false,
-    full: false,
-};
 
 impl RefusedSend<'_> {
     /// The send that the refusal tells, if it is one for what may be so when it is sent.
@@ -55,6 +51,11 @@ impl RefusedSend<'_> {
             view,
             row: table.rows.get(place)?,
             unarmed,
+            refusals: Refusals {
+                busy: false,
+                full: false,
+                early: scenario.parts().early,
+            },
         })
     }
 
@@ -87,7 +88,7 @@ impl RefusedSend<'_> {
         if tests.len() > MOST_ARMS || !fit(&view.keys, command, tests) {
             return Ok(false);
         }
-        let outcomes = outcomes(alloc, view, host, &command, tests, NEVER_REFUSED)?;
+        let outcomes = outcomes(alloc, view, host, &command, tests, self.refusals)?;
         let landing = Landing::NoArm(class);
         Ok(outcomes.iter().any(|outcome| outcome.0 == landing))
     }

@@ -98,15 +98,19 @@ are_nexuses version keys nexuses =
 
 -- a version of texts
 abbrev pub is_version : ℕ → Bool
-is_version version = version == 1 || version == 2
+is_version version = version == 1 || (version == 2 || version == 3)
 
 -- no refusals in version 1, and else not too many
 abbrev pub is_count : ℕ → ℕ → Bool
-is_count version n = n == 0 || (version == 2 && nat_le n MOST_REFUSALS)
+is_count version n = n == 0 || (nat_le 2 version && nat_le n MOST_REFUSALS)
 
 -- no resets in version 1, and else not too many
 abbrev pub are_resets : ℕ → ℕ → Bool
-are_resets version n = n == 0 || (version == 2 && nat_le n MOST_RESETS)
+are_resets version n = n == 0 || (nat_le 2 version && nat_le n MOST_RESETS)
+
+-- in versions 1 and 2 the disk looks at the reservation first
+abbrev pub is_order : ℕ → Bool → Bool
+is_order version early = not early || nat_lt 2 version
 
 -- no arm that came with a later version
 abbrev pub is_task_of : ℕ → Task → Bool
@@ -122,6 +126,7 @@ pub record Fits (s : Scenario) : Type 0 where
   pub version : IsTrue (is_version s.version)
   pub dated : IsTrue (are_of s.version s.nexuses)
   pub resets : IsTrue (are_resets s.version s.resets)
+  pub order : IsTrue (is_order s.version s.early)
   pub keys : AreDeclared s.keys
   pub reservations : IsTrue (are_reservations (length s.nexuses) s.reservations)
   pub nexuses : IsTrue (are_nexuses s.version s.keys s.nexuses)

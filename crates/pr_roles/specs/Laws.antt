@@ -31,10 +31,13 @@ FirstStartsAreEarliest =
 -- the same refusal
 abbrev pub is_same_refusal : How → How → Bool
 is_same_refusal how.Plain other = false
+is_same_refusal how.Early other = false
 is_same_refusal how.Busy how.Plain = false
+is_same_refusal how.Busy how.Early = false
 is_same_refusal how.Busy how.Busy = true
 is_same_refusal how.Busy how.Full = false
 is_same_refusal how.Full how.Plain = false
+is_same_refusal how.Full how.Early = false
 is_same_refusal how.Full how.Busy = false
 is_same_refusal how.Full how.Full = true
 

@@ -31,8 +31,8 @@ pub record Nexus : Type 0 where
   pub full : ℕ
 
 -- The version of its text, the declared keys, the reservations that there may be at the start, the generation of the first start,
--- how often the unit may be reset, on whose paths somebody else may take attentions away, and the nexuses in the order of their
--- numbers.
+-- how often the unit may be reset, on whose paths somebody else may take attentions away, whether the disk may report an attention
+-- before it looks at the reservation, and the nexuses in the order of their numbers.
 pub record Scenario : Type 0 where
   pub version : ℕ
   pub keys : List ℕ
@@ -40,6 +40,7 @@ pub record Scenario : Type 0 where
   pub generation : ℕ
   pub resets : ℕ
   pub shared : ℕ → Bool
+  pub early : Bool
   pub nexuses : List Nexus
 
 -- the same scenario where somebody else may send on each path, as on Linux the kernel does, and multipathd
@@ -83,5 +84,6 @@ scenario_of p = record {
   generation = p.generation;
   resets = p.resets;
   shared = is_shared_by (map (λ n. n.shared) p.nexuses.items);
+  early = p.early;
   nexuses = map nexus_of p.nexuses.items;
 }

@@ -20,7 +20,9 @@ use Rattle.pr_roles.specs.declared.how.How.TheVariants as how
 use Rattle.pr_roles.specs.declared.step.Step.{Step}
 use Rattle.pr_roles.specs.declared.step.Step.TheVariants as step
 use Rattle.pr_roles.specs.declared.item.Item.{Item}
-use Rattle.pr_roles.specs.Answers.{is_plain, may_come}
+use Rattle.pr_unit.specs.EarlyReports.{TakenEarly}
+use Rattle.pr_roles.specs.Answers.{may_come}
+use Rattle.pr_roles.specs.DeclaredRefusals.{is_served}
 use Rattle.pr_roles.specs.Permits.{is_permitted}
 use Rattle.pr_roles.specs.Scenarios.{Scenario, Task, Scripted, Planned, role, task}
 use Rattle.pr_roles.specs.Worlds.{World, control, standing_of, is_guest, after, after_reset, may_reset, world_from}
@@ -33,9 +35,10 @@ pub record Schedule : Type 0 where
 abbrev pub plan : Schedule → ℕ → List Command
 plan x g = option_map_or (λ p. p) (slice_get x.plans g) []
 
--- The unit answers a request so: where it may choose, it reports the lowest code.
+-- The unit answers a request so: where it may choose, it reports the lowest code. Where it can't report early, it answers as always.
 abbrev pub TakenAnswer : How → UnitState → ℕ → Request → Reply → UnitState → Type 0
 TakenAnswer how.Plain u h q r v = TakenStep u h q r v
+TakenAnswer how.Early u h q r v = TakenEarly u h q r v
 TakenAnswer how.Busy u h q r v = (r ≡ refused_with Busy) × (v ≡ u)
 TakenAnswer how.Full u h q r v = (r ≡ refused_with TaskFull) × (v ≡ u)
 
@@ -65,7 +68,7 @@ is_held_back clauses u g c = ends_good (decision u g (Plain c)) (Plain c) && not
 
 -- what is refused is not held back
 abbrev pub is_passed_over : How → List Clause → UnitState → ℕ → Command → Bool
-is_passed_over how clauses u g c = is_plain how && is_held_back clauses u g c
+is_passed_over how clauses u g c = is_served how && is_held_back clauses u g c
 
 -- a guest passes over what is held back
 abbrev pub passes_over : Scenario → Schedule → ℕ → How → Command → Bool

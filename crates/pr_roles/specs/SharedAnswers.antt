@@ -5,20 +5,15 @@ use Rattle.pr_cdb.specs.declared.reply.Reply.{Reply}
 use Rattle.pr_cdb.specs.declared.wire.Request.{Request}
 use Rattle.pr_unit.specs.UnitStates.{UnitState, IsWellFormed}
 use Rattle.pr_unit.specs.Laws.{IsQuiet}
+use Rattle.pr_unit.specs.SharedPaths.{IsFromLess}
 use Rattle.pr_roles.specs.declared.how.How.{How}
 use Rattle.pr_roles.specs.Answers.{Answers}
 use Rattle.pr_roles.specs.Scenarios.{Scenario}
 use Rattle.pr_roles.specs.Worlds.{World, Event, Run}
 
--- the request is answered so from a state in which nothing is pending for h that is not in u
-pub record AnswersFromLess (k : How) (u : UnitState) (h : ℕ) (q : Request) (r : Reply) (v : UnitState) : Type 0 where
-  pub from : UnitState
-  pub less : IsQuiet u h from
-  pub answer : Answers k from h q r v
-
--- it is answered so, where the path of h is shared, or is not
+-- The request is answered so, where the path of h is shared, or is not: on a shared one from a state in which less may be pending.
 abbrev pub AnswersOn : Bool → How → UnitState → ℕ → Request → Reply → UnitState → Type 0
-AnswersOn true k u h q r v = AnswersFromLess k u h q r v
+AnswersOn true k u h q r v = IsFromLess (λ x y. Answers k x h q r y) u h v
 AnswersOn false k u h q r v = Answers k u h q r v
 
 -- On a shared path fetches lead to each state in which no more is pending for its nexus.

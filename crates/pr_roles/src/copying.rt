@@ -22,6 +22,7 @@ impl Parts {
             reservations: Vec::from_slice(alloc, &self.reservations)?,
             generation: self.generation,
             resets: self.resets,
+            early: self.early,
             nexuses: copied_nexuses(alloc, &self.nexuses)?,
         })
     }
@@ -36,6 +37,7 @@ impl Parts {
             && same_reservations(&self.reservations, &other.reservations)
             && self.generation == other.generation
             && self.resets == other.resets
+            && self.early == other.early
             && same_nexuses(&self.nexuses, &other.nexuses)
             && same_paths(&self.nexuses, &other.nexuses)
     }

@@ -8,7 +8,7 @@ ghost use Rattle.std.specs.List.{All, list_all, list_any};
 ghost use Rattle.pr_registry.specs.Registrations.{IsKey};
 ghost use Rattle.pr_script.specs.Grammar.{is_written};
 ghost use Rattle.pr_roles.specs.Scenarios.{scenario_of, nexus_of, task_of};
-ghost use Rattle.pr_roles.specs.Fitting.{AreDeclared, Fits, are_distinct, is_action, is_role, is_alternative, is_same_alternative, is_start, is_task, is_nexus, is_reservation, are_reservations, are_nexuses, is_version, is_count, are_resets, is_task_of, are_of};
+ghost use Rattle.pr_roles.specs.Fitting.{AreDeclared, Fits, are_distinct, is_action, is_role, is_alternative, is_same_alternative, is_start, is_task, is_nexus, is_reservation, are_reservations, are_nexuses, is_version, is_count, are_resets, is_order, is_task_of, are_of};
 
 use crate::limits::{
     MOST_CLAUSES, MOST_KEYS, MOST_PLANNED, MOST_REFUSALS, MOST_RESETS, most_declared,
@@ -32,6 +32,7 @@ impl Parts {
         is_version(self.version)
             && are_of(self.version, &self.nexuses)
             && are_resets(self.version, self.resets)
+            && is_order(self.version, self.early)
             && are_declared(&self.keys)
             && are_reservations(self.nexuses.len(), &self.reservations)
             && are_nexuses(self.version, &self.keys, &self.nexuses)
@@ -41,19 +42,25 @@ impl Parts {
 fn is_version(version: u8) -> bool
     ensures { result ≡ is_version version }
 {
-    version == 1 || version == 2
+    version == 1 || version == 2 || version == 3
 }
 
 fn is_count(version: u8, count: u32) -> bool
     ensures { result ≡ is_count version count }
 {
-    count == 0 || (version == 2 && count <= MOST_REFUSALS)
+    count == 0 || (version >= 2 && count <= MOST_REFUSALS)
 }
 
 fn are_resets(version: u8, resets: u32) -> bool
     ensures { result ≡ are_resets version resets }
 {
-    resets == 0 || (version == 2 && resets <= MOST_RESETS)
+    resets == 0 || (version >= 2 && resets <= MOST_RESETS)
+}
+
+fn is_order(version: u8, early: bool) -> bool
+    ensures { result ≡ is_order version early }
+{
+    !early || version > 2
 }
 
 // What this version of texts has.

@@ -1,18 +1,21 @@
 //! How a command is answered.
 
 ghost use Rattle.std.specs.Prelude.{◌≡◌, ◌==◌, not};
-ghost use Rattle.pr_roles.specs.Answers.{is_refusal, most_of, status_of};
-ghost use Rattle.pr_roles.specs.DeclaredRefusals.{how_of, is_among};
+ghost use Rattle.pr_roles.specs.Answers.{is_refusal, most_of};
+ghost use Rattle.pr_roles.specs.DeclaredRefusals.{how_of, is_among, status_of};
 ghost use Rattle.pr_roles.specs.Scenarios.{nexus_of};
 
 use crate::parts::Nexus;
 use pr_cdb::{Reply, Status};
 
-/// How a command is answered: by the unit, or by one of the two refusals in which it has no part (SAM-5, 'Status').
+/// How a command is answered: by the unit, in the order of SAM-5 or reporting before it looks at the reservation, or by one of the two
+/// refusals in which it has no part (SAM-5, 'Status').
 #[derive(Clone, Copy, Debug, PartialEq, Eq)]
 pub enum How {
     /// By the unit.
     Plain,
+    /// By the unit, which reports an attention before it looks at the reservation.
+    Early,
     /// BUSY.
     Busy,
     /// TASK SET FULL.
@@ -36,7 +39,7 @@ impl How {
         ensures { result ≡ status_of self }
     {
         match self {
-            How::Plain => None,
+            How::Plain | How::Early => None,
             How::Busy => Some(Status::Busy),
             How::Full => Some(Status::TaskFull),
         }
@@ -47,18 +50,19 @@ impl How {
         ensures { result ≡ is_refusal self reply.now }
     {
         match self {
-            How::Plain => false,
+            How::Plain | How::Early => false,
             How::Busy => reply.status == Status::Busy,
             How::Full => reply.status == Status::TaskFull,
         }
     }
 }
 
-/// Which of the two refusals a nexus may meet.
+/// Which of the two refusals a nexus may meet, and whether the unit may report before it looks at the reservation.
 #[derive(Clone, Copy, Debug, PartialEq, Eq)]
 pub struct Refusals {
     pub busy: bool,
     pub full: bool,
+    pub early: bool,
 }
 
 impl Refusals {
@@ -68,6 +72,7 @@ impl Refusals {
     {
         match how {
             How::Plain => true,
+            How::Early => self.early,
             How::Busy => self.busy,
             How::Full => self.full,
         }
@@ -81,20 +86,22 @@ impl Nexus {
     {
         let Nexus { busy, full, .. } = self;
         match how {
-            How::Plain => 0,
+            How::Plain | How::Early => 0,
             How::Busy => *busy,
             How::Full => *full,
         }
     }
 
-    /// Which of them it may meet: those that are declared for it at all.
-    pub fn refusals(&self) -> Refusals
+    /// Which of them it may meet: those that are declared for it at all; and whether the unit may report early, as the scenario has it.
+    pub fn refusals(&self, early: bool) -> Refusals
         ensures busy { result.busy ≡ not (self.now.busy == 0) }
         ensures full { result.full ≡ not (self.now.full == 0) }
+        ensures early { result.early ≡ early }
     {
         Refusals {
             busy: self.busy != 0,
             full: self.full != 0,
+            early,
         }
     }
 }

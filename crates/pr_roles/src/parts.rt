@@ -43,7 +43,7 @@ pub struct Nexus {
 /// What a scenario declares. Nexuses are numbered from 0 in the order of their declaration.
 #[derive(Drop)]
 pub struct Parts {
-    /// That of its text: 1 or 2.
+    /// That of its text: 1, 2 or 3. No text of version 3 is read yet.
     pub version: u8,
     pub keys: Vec<u64>,
     /// The reservations that there may be at the start, or none.
@@ -52,5 +52,7 @@ pub struct Parts {
     pub generation: u32,
     /// How often the unit may be reset during a run.
     pub resets: u32,
+    /// Whether the unit may report an attention before it looks at the reservation.
+    pub early: bool,
     pub nexuses: Vec<Nexus>,
 }

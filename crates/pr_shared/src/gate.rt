@@ -9,7 +9,8 @@ pub trait Gate: Sync {
     fn before(&self, host: u8, n: u32);
 
     /// How the command of turn `n` of this nexus is answered. Where it says a refusal, and the scenario has one left for the
-    /// nexus, that is the answer; else the unit answers.
+    /// nexus, that is the answer; else the unit answers. Where it says early, the unit reports before it looks at the
+    /// reservation, if the scenario has that and the unit may.
     fn how(&self, _host: u8, _n: u32) -> How {
         How::Plain
     }

@@ -84,8 +84,9 @@ impl<C: Round> SharedWorld<C> {
         self.turn_as(rt, seat, How::Plain)
     }
 
-    /// The same, with the command answered so, where that is a refusal of which the scenario has one left for the nexus; else
-    /// by the unit. It waits for the lock, and takes no memory.
+    /// The same, with the command answered so, where that is a refusal of which the scenario has one left for the nexus, or a
+    /// report before the reservation is looked at, where the scenario has those and the unit may make one; else by the unit. It
+    /// waits for the lock, and takes no memory.
     pub fn turn_as<R: Wait>(&self, rt: &R, seat: &mut Seat<C>, how: How) -> Turn
         requires { MayTurn seat.old.ended seat.old.mine }
         ensures host { seat.new.host ≡ seat.old.host }

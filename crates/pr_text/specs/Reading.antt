@@ -1,6 +1,6 @@
 -- Agrees with docs/FORMATS.md, 'Scenario text'.
 -- The scenario that a text is.
-use Rattle.std.specs.Prelude.{◌≡◌, ℕ, List, [], map, Option, unwrap_or, Result, Ok, Err}
+use Rattle.std.specs.Prelude.{◌≡◌, ℕ, List, [], map, Option, unwrap_or, Result, Ok, Err, false}
 use Rattle.pr_attention.specs.Attentions.{Codes}
 use Rattle.pr_attention.specs.CodeSets.{no_code}
 use Rattle.pr_roles.specs.declared.role.Clause.{Clause}
@@ -43,8 +43,9 @@ nexus_declared x = record {
   full = unwrap_or x.full 0;
 }
 
--- The scenario is just what is declared: its scripts are written as the lines that were read. Where no line says how
--- often the unit may be reset, it is not reset. No line says that a path is shared.
+-- The scenario is just what is declared: its scripts are written as the lines that were read. Where no line says how often the
+-- unit may be reset, it is not reset. No line says that a path is shared, nor that the disk reports an attention before it looks
+-- at the reservation.
 pub record IsDeclaredBy (d : Declared) (s : Scenario) : Type 0 where
   pub version : s.version ≡ d.version
   pub keys : s.keys ≡ unwrap_or d.keys []
@@ -52,6 +53,7 @@ pub record IsDeclaredBy (d : Declared) (s : Scenario) : Type 0 where
   pub generation : s.generation ≡ unwrap_or d.generation 0
   pub resets : s.resets ≡ unwrap_or d.resets 0
   pub alone : NobodyShares s
+  pub order : s.early ≡ false
   pub nexuses : map nexus_written s.nexuses ≡ map nexus_declared d.nexuses
 
 -- The text has no fault, and the scenario is what it declares.

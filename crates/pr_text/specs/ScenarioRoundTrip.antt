@@ -94,7 +94,7 @@ pub record IsSaid (n : ℕ) (s : Scenario) : Type 0 where
   pub faultless : all_said (lines_said n s) nothing ≡ Ok declared
   pub whole : IsWhole n declared s
 
--- The lines of a scenario have no fault, if its parts fit, some state is allowed to start from, nobody shares a path, and what
--- may be pending are attentions.
+-- The lines of a scenario have no fault, if its parts fit, some state is allowed to start from, nobody shares a path, the disk
+-- looks at the reservation first, and what may be pending are attentions.
 abbrev pub ScenariosHaveNoFault : Type 0
-ScenariosHaveNoFault = (n : ℕ) (s : Scenario) → Fits s → CanStart s → NobodyShares s → All (λ x. AreAttentions x.pending) s.nexuses → IsSaid n s
+ScenariosHaveNoFault = (n : ℕ) (s : Scenario) → Fits s → CanStart s → NobodyShares s → s.early ≡ false → All (λ x. AreAttentions x.pending) s.nexuses → IsSaid n s

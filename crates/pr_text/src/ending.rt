@@ -78,6 +78,7 @@ impl Builder {
             reservations: or_none(alloc, reservations)?,
             generation: generation.unwrap_or(0),
             resets: resets.unwrap_or(0),
+            early: false,
             nexuses: nexuses_of(alloc, nexuses)?,
         })
     }

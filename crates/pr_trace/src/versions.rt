@@ -10,7 +10,7 @@ use pr_roles::limits::most_declared;
 /// The items of a trace of version 1: what eight nexuses may send.
 pub const MOST_ITEMS_1: u32 = 32_768;
 
-/// The items of a trace of version 2: what sixteen nexuses may send, and 1,000 resets.
+/// The items of a trace of a later version: what sixteen nexuses may send, and 1,000 resets.
 pub const MOST_ITEMS_2: u32 = 66_536;
 
 /// How many items a trace of this version has at most.

@@ -10,5 +10,6 @@ pub mod Steps
 pub mod TakenSteps
 pub mod Follows
 pub mod Laws
+pub mod EarlyReports
 pub mod SharedPaths
 pub mod inside

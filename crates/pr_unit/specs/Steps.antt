@@ -1,6 +1,6 @@
 -- Agrees with SAM-5, 'Status precedence'; docs/MODEL.md, 'The order in which a request is answered'.
 -- What the logical unit may answer to a request, and the state that it is in then.
-use Rattle.std.specs.Prelude.{◌≡◌, ℕ, IsTrue, if◌then◌else◌, Option, Some, None}
+use Rattle.std.specs.Prelude.{◌≡◌, ℕ, false, true, IsTrue, if◌then◌else◌, Option, Some, None}
 use Rattle.pr_cdb.specs.declared.reply.Sense.{Sense}
 use Rattle.pr_cdb.specs.declared.reply.Reply.{Reply}
 use Rattle.pr_cdb.specs.declared.wire.Request.{Request}
@@ -48,3 +48,9 @@ StepBy Done u h q r u' = IsDone u h q r u'
 -- In state u, the request q of host h may be answered with r, and then the state is u'.
 abbrev pub Step : UnitState → ℕ → Request → Reply → UnitState → Type 0
 Step u h q r u' = StepBy (decision u h q) u h q r u'
+
+-- Some disks report an attention though the request conflicts. A power on comes before both.
+pub record ReportsEarly (u : UnitState) (h : ℕ) (q : Request) (r : Reply) (u' : UnitState) : Type 0 where
+  pub calm : is_pending u h power_on ≡ false
+  pub kept : conflicts u.registry h q ≡ true
+  pub reports : Reports u h q r u'

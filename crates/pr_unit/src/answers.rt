@@ -1,6 +1,6 @@
 //! The answer to a request.
 
-ghost use Rattle.std.specs.Prelude.{◌≡◌, ◌<◌, false, None};
+ghost use Rattle.std.specs.Prelude.{◌≡◌, ◌<◌, true, false, None};
 ghost use Rattle.std.specs.FinSet as set;
 ghost use Rattle.pr_attention.specs.Attentions.{code_of};
 ghost use Rattle.pr_registry.specs.Registrations.{IsWellFormed};
@@ -8,11 +8,12 @@ ghost use Rattle.pr_unit.specs.Tables.{table_pairs, unit_of};
 ghost use Rattle.pr_unit.specs.UnitStates.{effect};
 ghost use Rattle.pr_unit.specs.Conduct.{command_conflicts, command_fault};
 ghost use Rattle.pr_unit.specs.Replies.{good, report, data_of};
+ghost use Rattle.pr_unit.specs.EarlyReports.{EarlyStep, TakenEarly, is_early};
 ghost use Rattle.pr_unit.specs.TakenSteps.{TakenStep};
 
 use crate::conduct::apply;
 use crate::data::data;
-use crate::decision::{Decision, decide};
+use crate::decision::{Decision, conflicts, decide};
 use crate::demand::demand_of;
 use crate::{pending_table, reply};
 use pr_attention::{Attention, Pending};
@@ -45,6 +46,61 @@ pub(crate) fn answer(
             Request::Faulty(_) => unreachable!(),
         },
     }
+}
+
+/// The same, by a unit that reports an attention before it looks at the reservation, where it may.
+pub(crate) fn answer_early(
+    registry: &mut Registry,
+    pendings: &mut [Pending; MOST_NEXUSES],
+    host: u8,
+    request: Request,
+) -> Reply
+    requires there { host < registry.old.hosts }
+    requires well_formed { IsWellFormed registry.old }
+    ensures { TakenEarly (unit_of registry.old pendings.old) host request result
+        (unit_of registry.new pendings.new) }
+{
+    if is_early(registry, pendings, host, request) {
+        report_early(registry, pendings, host, request)
+    } else {
+        answer(registry, pendings, host, request)
+    }
+}
+
+// Reports the lowest attention that is pending, though the request conflicts.
+fn report_early(
+    registry: &Registry,
+    pendings: &mut [Pending; MOST_NEXUSES],
+    host: u8,
+    request: Request,
+) -> Reply
+    requires there { host < registry.now.hosts }
+    requires place { host < MOST_NEXUSES }
+    requires early { is_early (unit_of registry.now pendings.old) host request ≡ true }
+    ensures { EarlyStep true (unit_of registry.now pendings.old) host request result
+        (unit_of registry.now pendings.new) }
+{
+    let _ = registry;
+    match pending_table::lowest(pendings, host) {
+        Some(attention) => report(pendings, host, request, attention),
+        None => unreachable!(),
+    }
+}
+
+// The unit may report before it looks at the reservation.
+fn is_early(
+    registry: &Registry,
+    pendings: &[Pending; MOST_NEXUSES],
+    host: u8,
+    request: Request,
+) -> bool
+    requires there { host < registry.now.hosts }
+    requires place { host < MOST_NEXUSES }
+    ensures { result ≡ is_early (unit_of registry.now pendings.now) host request }
+{
+    !pending_table::has(pendings, host, Attention::PowerOn)
+        && conflicts(registry, host, request)
+        && pending_table::has_any(pendings, host)
 }
 
 /// Reports the attention, which alone is pending for the host no more.

@@ -5,12 +5,13 @@ ghost use Rattle.pr_attention.specs.Attentions.{code_of};
 ghost use Rattle.pr_unit.specs.UnitStates.{IsWellFormed};
 ghost use Rattle.pr_unit.specs.Tables.{unit_of};
 ghost use Rattle.pr_unit.specs.Conduct.{command_conflicts, command_fault};
+ghost use Rattle.pr_unit.specs.EarlyReports.{IsFollowedEarly};
 ghost use Rattle.pr_unit.specs.Follows.{IsFollowed};
 ghost use Rattle.pr_unit.specs.inside.Following.{IsReported, IsAnyReported, IsDoneSo};
 
 use crate::answers::{perform, report_of};
 use crate::data::data;
-use crate::decision::{Decision, decide};
+use crate::decision::{Decision, conflicts, decide};
 use crate::{pending_table, reply};
 use pr_attention::{Attention, Pending};
 use pr_cdb::codes::MOST_NEXUSES;
@@ -43,6 +44,28 @@ pub(crate) fn follow(
             Request::Faulty(_) => unreachable!(),
         },
     }
+}
+
+/// Whether the unit may report just so before it looks at the reservation, with which the request conflicts. Where it may, what is
+/// pending is what it leaves; else nothing changes.
+pub(crate) fn follow_early(
+    registry: &Registry,
+    pendings: &mut [Pending; MOST_NEXUSES],
+    host: u8,
+    request: Request,
+    reply: &Reply,
+) -> bool
+    requires there { host < registry.now.hosts }
+    requires well_formed { IsWellFormed (unit_of registry.now pendings.old) }
+    ensures { IsFollowedEarly (unit_of registry.now pendings.old) host request reply.now result
+        (unit_of registry.now pendings.new) }
+{
+    if pending_table::has(pendings, host, Attention::PowerOn)
+        || !conflicts(registry, host, request)
+    {
+        return false;
+    }
+    follow_any_report(registry, pendings, host, request, reply)
 }
 
 // Follows a reply that reports one of the attentions.

@@ -5,11 +5,12 @@ ghost use Rattle.pr_attention.specs.Attentions.{code_of};
 ghost use Rattle.pr_unit.specs.UnitStates.{IsWellFormed};
 ghost use Rattle.pr_unit.specs.Tables.{unit_of};
 ghost use Rattle.pr_unit.specs.SharedPaths.{IsFollowedShared};
+ghost use Rattle.pr_unit.specs.Steps.{Step, ReportsEarly};
 ghost use Rattle.pr_unit.specs.inside.Ways.{IsWayFor, Tells, TellsAny};
 
 use crate::answers::report_of;
 use crate::decision::conflicts;
-use crate::follows::follow;
+use crate::follows::{follow, follow_early};
 use crate::pending_table;
 use crate::unit::table_of;
 use pr_attention::{Attention, Pending};
@@ -28,12 +29,35 @@ pub(crate) fn follow_shared(
 ) -> bool
     requires there { host < registry.old.hosts }
     requires well_formed { IsWellFormed (unit_of registry.old pendings.old) }
-    ensures { IsFollowedShared (unit_of registry.old pendings.old) host request reply.now result
-        (unit_of registry.new pendings.new) }
+    ensures { IsFollowedShared (λ u v. Step u host request reply.now v)
+        (unit_of registry.old pendings.old) host result (unit_of registry.new pendings.new) }
 {
     let mut way = table_of(pendings);
     make_way(registry, &mut way, host, request, reply);
     let follows = follow(registry, &mut way, host, request, reply);
+    if follows {
+        *pendings = way;
+    }
+    follows
+}
+
+/// The same of a report that comes before the unit looks at the reservation.
+pub(crate) fn follow_early_shared(
+    registry: &Registry,
+    pendings: &mut [Pending; MOST_NEXUSES],
+    host: u8,
+    request: Request,
+    reply: &Reply,
+) -> bool
+    requires there { host < registry.now.hosts }
+    requires well_formed { IsWellFormed (unit_of registry.now pendings.old) }
+    ensures { IsFollowedShared (λ u v. ReportsEarly u host request reply.now v)
+        (unit_of registry.now pendings.old) host result (unit_of registry.now pendings.new) }
+{
+    // A power on comes before a conflict in any order, so that it has to be gone.
+    let mut way = table_of(pendings);
+    pending_table::remove(&mut way, host, Attention::PowerOn);
+    let follows = follow_early(registry, &mut way, host, request, reply);
     if follows {
         *pendings = way;
     }

@@ -7,12 +7,12 @@ ghost use Rattle.pr_attention.specs.Attentions.{is_attention};
 ghost use Rattle.pr_attention.specs.CodeSets.{AreAttentions, no_code};
 ghost use Rattle.pr_unit.specs.Tables.{place, table_pairs};
 
-use crate::answers::{answer, take_effect};
+use crate::answers::{answer, answer_early, take_effect};
 use crate::conflicts::command_conflicts;
 use crate::decision::{decide, ends_good, fault};
-use crate::follows::follow;
+use crate::follows::{follow, follow_early};
 use crate::pending_table;
-use crate::shared_paths::follow_shared;
+use crate::shared_paths::{follow_early_shared, follow_shared};
 use pr_attention::{Attention, Pending};
 use pr_cdb::codes::MOST_NEXUSES;
 use pr_cdb::{Bad, Command, Reply, Request, Sense, Wire, decode, in_range};
@@ -54,8 +54,9 @@ impl Unit {
     ghost use Rattle.pr_unit.specs.Tables.{unit_of, quiet_unit};
     ghost use Rattle.pr_unit.specs.Replies.{is_good};
     ghost use Rattle.pr_unit.specs.Conduct.{command_conflicts, command_fault};
-    ghost use Rattle.pr_unit.specs.Steps.{Step, decision};
+    ghost use Rattle.pr_unit.specs.Steps.{Step, decision, ReportsEarly};
     ghost use Rattle.pr_unit.specs.TakenSteps.{Executes, ends_good};
+    ghost use Rattle.pr_unit.specs.EarlyReports.{ExecutesEarly, FollowsEarly};
     ghost use Rattle.pr_unit.specs.Follows.{Follows};
     ghost use Rattle.pr_unit.specs.SharedPaths.{FollowsShared, silenced};
 
@@ -160,6 +161,16 @@ impl Unit {
         Ok(answer(&mut self.registry, &mut self.pending, host, request))
     }
 
+    /// The same, by a unit that reports an attention before it looks at the reservation: the lowest of those that are pending, where
+    /// the command conflicts and no power on is among them. Any other command it answers as always.
+    pub fn execute_early(&mut self, host: u8, wire: &Wire) -> Result<Reply, Bad>
+        requires { host < self.old.registry.hosts }
+        ensures { ExecutesEarly self.old host (request_of_wire wire.now) result self.new }
+    {
+        let request = decode(&wire.cdb, &wire.params)?;
+        Ok(answer_early(&mut self.registry, &mut self.pending, host, request))
+    }
+
     /// Has the command of the host take effect, as where it ends GOOD. What is pending for the host stays.
     pub fn take_effect(&mut self, host: u8, command: &Command)
         requires there { host < self.old.registry.hosts }
@@ -183,15 +194,42 @@ impl Unit {
         }
     }
 
+    /// Whether the unit may report just so before it looks at the reservation, with which the command of the host conflicts. Where it
+    /// may, it is in the state after that report; else nothing changes.
+    pub fn follow_early(&mut self, host: u8, wire: &Wire, reply: &Reply) -> bool
+        requires { host < self.old.registry.hosts }
+        ensures { FollowsEarly self.old host (request_of_wire wire.now) reply.now result self.new }
+    {
+        match decode(&wire.cdb, &wire.params) {
+            Ok(request) => follow_early(&self.registry, &mut self.pending, host, request, reply),
+            Err(_) => false,
+        }
+    }
+
     /// The same, where somebody else on the host's path may have been told of what was pending for the host: whether the unit may
     /// answer so once some of that is gone. Where it may, it is in the state after that answer in which as much as can be is left.
     pub fn follow_shared(&mut self, host: u8, wire: &Wire, reply: &Reply) -> bool
         requires { host < self.old.registry.hosts }
-        ensures { FollowsShared self.old host (request_of_wire wire.now) reply.now result self.new }
+        ensures { FollowsShared (λ q u v. Step u host q reply.now v) self.old host
+            (request_of_wire wire.now) result self.new }
     {
         match decode(&wire.cdb, &wire.params) {
             Ok(request) => {
                 follow_shared(&mut self.registry, &mut self.pending, host, request, reply)
+            }
+            Err(_) => false,
+        }
+    }
+
+    /// The same of a report that comes before the unit looks at the reservation.
+    pub fn follow_early_shared(&mut self, host: u8, wire: &Wire, reply: &Reply) -> bool
+        requires { host < self.old.registry.hosts }
+        ensures { FollowsShared (λ q u v. ReportsEarly u host q reply.now v) self.old host
+            (request_of_wire wire.now) result self.new }
+    {
+        match decode(&wire.cdb, &wire.params) {
+            Ok(request) => {
+                follow_early_shared(&self.registry, &mut self.pending, host, request, reply)
             }
             Err(_) => false,
         }

@@ -12,7 +12,7 @@ ghost use Rattle.pr_world.specs.inside.Turns.{ParticipantActs, doing_of, partici
 use crate::act::Act;
 use crate::plan::Plan;
 use pr_audit::{End, refused};
-use pr_cdb::{Command, encode};
+use pr_cdb::{Command, Status, encode};
 use pr_roles::{Entry, How, Nexus, Role, Task, permits};
 use pr_script::{Machine, Next};
 use pr_unit::Unit;
@@ -109,19 +109,25 @@ fn is_held_back(unit: &Unit, role: &Role, host: u8, command: Command) -> bool
     unit.would_end_good(host, &command) && !permits(role, unit, host, &command)
 }
 
-// The command is sent, and comes back with its reply: that of the unit, or a refusal in which the unit has no part.
+// The command is sent, and comes back with its reply: that of the unit, which may report before it looks at the reservation, or a
+// refusal in which the unit has no part.
 fn send(unit: &mut Unit, host: u8, command: Command, how: How) -> Entry
     requires { host < unit.old.registry.hosts }
     ensures sent { IsSent how unit.old host command result unit.new }
     ensures hosts { unit.new.registry.hosts ≡ unit.old.registry.hosts }
 {
     let wire = encode(&command);
-    let reply = match how.status() {
-        None => match unit.execute(host, &wire) {
+    let reply = match how {
+        How::Plain => match unit.execute(host, &wire) {
             Ok(reply) => reply,
             Err(_) => unreachable!(),
         },
-        Some(status) => refused(status),
+        How::Early => match unit.execute_early(host, &wire) {
+            Ok(reply) => reply,
+            Err(_) => unreachable!(),
+        },
+        How::Busy => refused(Status::Busy),
+        How::Full => refused(Status::TaskFull),
     };
     Entry { host, wire, reply }
 }

@@ -83,7 +83,8 @@ impl World {
     }
 
     /// The turn of this nexus. Its command is answered so, where that is a refusal of which the scenario has one left for the
-    /// nexus; else by the unit, as in [`World::step`]. It takes no memory.
+    /// nexus, or a report before the reservation is looked at, where the scenario has those and the unit may make one; else by
+    /// the unit, as in [`World::step`]. It takes no memory.
     ///
     /// A refusal changes nothing of the unit. A guest's command that is refused is used up, and never held back.
     pub fn step_as(&mut self, host: u8, how: How) -> Turn

@@ -1,3 +1,4 @@
 pub mod Histories
 pub mod Judgements
 pub mod Parts
+pub mod Ways

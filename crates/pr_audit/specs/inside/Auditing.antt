@@ -1,5 +1,5 @@
 -- The items that may come next in an audit.
-use Rattle.std.specs.Prelude.{◌≡◌, ℕ, ◌≤◌, Bool, true, false, IsTrue, List, Some, Ok, length, map}
+use Rattle.std.specs.Prelude.{◌≡◌, ℕ, ◌≤◌, Bool, true, false, IsTrue, List, [], ◌∷◌, ◌++◌, Some, Ok, length, map}
 use Rattle.pr_cdb.specs.declared.codes.TheConstants.{MOST_CDB_LENGTH, PARAMETER_LIST_LENGTH}
 use Rattle.pr_cdb.specs.declared.command.Command.{Command}
 use Rattle.pr_cdb.specs.declared.wire.Request.{Request}
@@ -21,11 +21,14 @@ use Rattle.pr_roles.specs.declared.item.Item.{Item}
 use Rattle.pr_roles.specs.declared.how.How.{How}
 use Rattle.pr_roles.specs.SharedAnswers.{AnswersOn}
 use Rattle.pr_roles.specs.inside.SharedStates.{AnswersMost}
+use Rattle.pr_roles.specs.DeclaredRefusals.{is_served}
+use Rattle.pr_roles.specs.declared.item.Item.TheVariants.{Sent}
 use Rattle.pr_roles.specs.Permits.{is_permitted}
 use Rattle.pr_roles.specs.Scenarios.{Scenario, Task, Scripted, Planned, scenario_of}
-use Rattle.pr_roles.specs.Worlds.{World, Event, Run, Control, Going, Trapped, Free, control_of, standing_of, control_after, world_from}
+use Rattle.pr_roles.specs.Worlds.{World, Event, Host, Guest, UnitReset, Fetched, Happens, Run, Control, Going, Trapped, Free, control_of, standing_of, control_after, world_from}
 use Rattle.pr_audit.specs.declared.sender.Sender.{Sender}
-use Rattle.pr_audit.specs.Auditors.{control_by}
+use Rattle.pr_audit.specs.declared.auditor.Auditor.{Auditor}
+use Rattle.pr_audit.specs.Auditors.{IsTried, IsWorldOf, control_by, world_at}
 
 -- True: what its bytes ask for may be answered so, on a shared path or another, and then most is pending in this state. False: it
 -- may not, and nothing changes.
@@ -101,3 +104,37 @@ pub record Reaches (s : Scenario) (u : UnitState) (history : List Item) (w : Wor
   pub events : List Event
   pub run : Run s (world_from s u) events w
   pub items : w.history ≡ history
+
+-- ---- one way in which a command may be answered
+
+-- in the event a command is answered so
+abbrev pub IsBy : How → Event → Type 0
+IsBy k (Host h so) = so ≡ k
+IsBy k (Guest g wire so) = so ≡ k
+IsBy k UnitReset = ⊥
+IsBy k (Fetched h code) = ⊥
+
+-- such an event adds the entry
+pub record AddsBy (k : How) (s : Scenario) (w : World) (e : Entry) (v : World) : Type 0 where
+  pub event : Event
+  pub by : IsBy k event
+  pub happens : Happens s w event v
+  pub added : v.history ≡ w.history ++ Sent e ∷ []
+
+-- True: the entry is tried, and some event adds it. False: no event in which it is answered so adds it to any of the worlds, and
+-- nothing changes.
+abbrev pub IsTriedBy : How → Scenario → World → Entry → Bool → World → Type 0
+IsTriedBy k s w e true v = IsTried s w (Sent e) true v
+IsTriedBy k s w e false v = (v.unit ≡ w.unit) × (v.controls ≡ w.controls) × ((x y : World) → IsWorldOf s w x → AddsBy k s x e y → ⊥)
+
+-- The same of both ways in which the unit answers.
+abbrev pub IsTriedServed : Scenario → World → Entry → Bool → World → Type 0
+IsTriedServed s w e true v = IsTried s w (Sent e) true v
+IsTriedServed s w e false v = (k : How) → IsTrue (is_served k) → (x y : World) → IsWorldOf s w x → AddsBy k s x e y → ⊥
+
+-- the same from one auditor to another, after this history
+abbrev pub TriesBy : How → Parts → List Item → Entry → Bool → Auditor → Auditor → Type 0
+TriesBy k p before e answer a b = IsTriedBy k (scenario_of p) (world_at a before) e answer (world_at b (before ++ Sent e ∷ []))
+
+abbrev pub TriesServed : Parts → List Item → Entry → Bool → Auditor → Auditor → Type 0
+TriesServed p before e answer a b = IsTriedServed (scenario_of p) (world_at a before) e answer (world_at b (before ++ Sent e ∷ []))

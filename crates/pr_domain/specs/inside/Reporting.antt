@@ -103,10 +103,10 @@ pub record HasWords {S : Type 0} {sets : ViewSet S} (view : ViewOf S sets) (foun
 
 -- ---- where they come from
 
--- how a command ends: by the report of an attention, in a conflict, at fault, or GOOD with its effect;
--- or it is refused, by BUSY or by TASK SET FULL
+-- How a command ends: by the report of an attention, where it conflicts or does not; in a conflict, at fault, or GOOD with its
+-- effect; or it is refused, by BUSY or by TASK SET FULL.
 pub data Ending : Type 0 where
-  Reports : Attention → Ending
+  Reports : Bool → Attention → Ending
   Conflicts : Ending
   Fails : Ending
   EndsGood : Ending
@@ -120,17 +120,18 @@ IsReport c h u a r w = (is_pending u h (code_of a) ≡ true) × (r ≡ report (P
 abbrev pub IsLater : Attention → Type 0
 IsLater a = code_of a ≢ power_on
 
--- a later one comes after power on, and where there is no conflict
-abbrev pub MayReport : Command → ℕ → UnitState → Attention → Type 0
-MayReport c h u a = IsLater a → (is_pending u h power_on ≡ false) × (command_conflicts u.registry h c ≡ false)
+-- a later one comes after power on, and where there is a conflict or not
+abbrev pub MayReport : Command → ℕ → UnitState → Bool → Attention → Type 0
+MayReport c h u conflicting a = IsLater a → (is_pending u h power_on ≡ false) × (command_conflicts u.registry h c ≡ conflicting)
 
 abbrev pub refusal : Unserved → Reply
 refusal refused.Busy = refused_with status.Busy
 refusal refused.Full = refused_with status.TaskFull
 
--- such an end may come where the sender may meet these refusals
+-- such an end may come where the sender may meet these refusals, and the unit may report before a conflict or not
 abbrev pub comes : Refusals → Ending → Bool
-comes d (Reports a) = true
+comes d (Reports false a) = true
+comes d (Reports true a) = d.early
 comes d Conflicts = true
 comes d Fails = true
 comes d EndsGood = true
@@ -139,7 +140,7 @@ comes d (Refuses refused.Full) = d.full
 
 -- in state u the command of h ends so, with this reply, and then the state is w
 abbrev pub Ends : Ending → Command → ℕ → UnitState → Reply → UnitState → Type 0
-Ends (Reports a) c h u r w = MayReport c h u a × IsReport c h u a r w
+Ends (Reports conflicting a) c h u r w = MayReport c h u conflicting a × IsReport c h u a r w
 Ends Conflicts c h u r w = (is_pending u h power_on ≡ false) × (command_conflicts u.registry h c ≡ true) × (r ≡ conflict) × (w ≡ u)
 Ends Fails c h u r w = (is_any_pending u h ≡ false) × (command_conflicts u.registry h c ≡ false) × (s : Sense) × (command_fault u.registry h c ≡ Some s) × (r ≡ check s) × (w ≡ u)
 Ends EndsGood c h u r w = (is_any_pending u h ≡ false) × (command_conflicts u.registry h c ≡ false) × (command_fault u.registry h c ≡ None) × (r ≡ good (data_of u.registry c)) × (w ≡ effect u h c)

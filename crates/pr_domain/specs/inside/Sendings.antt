@@ -1,6 +1,7 @@
 -- What is added to the outcomes of a command that is sent.
-use Rattle.std.specs.Prelude.{◌≡◌, ◌↔◌, ℕ, Bool, IsTrue, List}
+use Rattle.std.specs.Prelude.{◌≡◌, ◌↔◌, ◌⊎◌, ℕ, Bool, true, IsTrue, List}
 use Rattle.pr_sets.specs.declared.bit_set.BitSet.{BitSet}
+use Rattle.pr_attention.specs.declared.attention.Attention.TheVariants.{ReservationsPreempted, ReservationsReleased, RegistrationsPreempted}
 use Rattle.pr_script.specs.declared.landing.Landing.{Landing}
 use Rattle.pr_views.specs.declared.possibilities.Possibilities.{Possibilities}
 use Rattle.pr_views.specs.Possibilities.{Scope, Item}
@@ -9,7 +10,7 @@ use Rattle.pr_views.specs.Portions.{view_in}
 use Rattle.pr_domain.specs.declared.reporting.Unserved.{Unserved}
 use Rattle.pr_domain.specs.declared.reporting.Sending.{Sending}
 use Rattle.pr_domain.specs.inside.Tallies.{IsTally, scope_at}
-use Rattle.pr_domain.specs.inside.Reporting.{HasOutcome, AreMore, IsOfWay, Ending, Refuses, LandsBy, LandsSomehow, LandsGood}
+use Rattle.pr_domain.specs.inside.Reporting.{HasOutcome, AreMore, IsOfWay, Ending, Reports, Refuses, LandsBy, LandsSomehow, LandsGood}
 
 abbrev pub scope_of_sending : Sending → Scope
 scope_of_sending q = scope_at q.asked.keys.now q.hosts q.sender
@@ -45,6 +46,15 @@ AddsGood q arm old new = AddsThis q (LandsGood (view_of_sending q) q.asked.comma
 -- so they have where the refusal lands, if the sender may meet it
 abbrev pub AddsIf : Sending → Bool → Unserved → List (Landing × Possibilities) → List (Landing × Possibilities) → Type 0
 AddsIf q declared refused old new = AddsThis q (λ l i. IsTrue declared × LandsOf q (Refuses refused) l i) old new
+
+-- where a report lands that comes though the command conflicts
+abbrev pub LandsEarly : Sending → Landing → Item → Type 0
+LandsEarly q l i =
+    (LandsOf q (Reports true ReservationsPreempted) l i ⊎ LandsOf q (Reports true ReservationsReleased) l i) ⊎ LandsOf q (Reports true RegistrationsPreempted) l i
+
+-- so they have where such reports land, if the unit may report so
+abbrev pub AddsEarly : Sending → List (Landing × Possibilities) → List (Landing × Possibilities) → Type 0
+AddsEarly q old new = AddsThis q (λ l i. IsTrue q.refusals.early × LandsEarly q l i) old new
 
 -- if the tally is of the states from which the command is sent, the outcomes have what it may come to there
 abbrev pub AreOutcomesOf : Sending → List (Landing × Possibilities) → Type 0

@@ -77,6 +77,11 @@ Leaves s c tests (suc (suc (suc n))) u i =
     (command_conflicts u.registry s.own c ≡ false) × (command_fault u.registry s.own c ≡ None)
     × (first_test tests (good (data_of u.registry c)) ≡ arm_of n) × IsRegistered s (effect u s.own c) i
 
+-- the way of the states in which the command conflicts, or of those in which it does not
+abbrev pub way_for : Bool → ℕ
+way_for true = 0
+way_for false = 1
+
 -- among these shown states, one leaves this in this way, with these attentions pending for the owner
 pub record IsFound (v : View) (c : Command) (tests : List Test) (Among : UnitState → Type 0) (way : ℕ) (i : Item) (q : ℕ) : Type 0 where
   pub unit : UnitState

@@ -57,10 +57,10 @@ nexus_sync : IsSync (nexus.the_field).row
 nexus_sync = struct_sync (shape nexus.the_type) (search (sendable, word.the_sync), (role.the_field_sync, (start.the_field_sync, (pending.the_sync, (task_sync, (search sendable, (search sendable, (search sendable, tt))))))))
 
 parts_send : IsSend (parts.the_field).row
-parts_send = struct_send (shape parts.the_type) (search sendable, (search (sendable, crosses), (Vec-send (option.the_row declared.the_row) (optional.the_send declared.the_row held.the_send), (search sendable, (search sendable, (Vec-send _ (recorded_send (nexus.the_field).row _ _ (nexus.the_type).to_one nexus_send), tt))))))
+parts_send = struct_send (shape parts.the_type) (search sendable, (search (sendable, crosses), (Vec-send (option.the_row declared.the_row) (optional.the_send declared.the_row held.the_send), (search sendable, (search sendable, (search sendable, (Vec-send _ (recorded_send (nexus.the_field).row _ _ (nexus.the_type).to_one nexus_send), tt)))))))
 
 parts_sync : IsSync (parts.the_field).row
-parts_sync = struct_sync (shape parts.the_type) (search sendable, (search (sendable, crosses), (Vec-sync (option.the_row declared.the_row) (optional.the_sync declared.the_row held.the_sync), (search sendable, (search sendable, (Vec-sync _ (recorded_sync (nexus.the_field).row _ _ (nexus.the_type).to_one nexus_sync), tt))))))
+parts_sync = struct_sync (shape parts.the_type) (search sendable, (search (sendable, crosses), (Vec-sync (option.the_row declared.the_row) (optional.the_sync declared.the_row held.the_sync), (search sendable, (search sendable, (search sendable, (Vec-sync _ (recorded_sync (nexus.the_field).row _ _ (nexus.the_type).to_one nexus_sync), tt)))))))
 
 scenario_send : IsSend scenario.the_row
 scenario_send = search (sendable, parts_send)

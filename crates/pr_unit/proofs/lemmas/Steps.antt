@@ -1,3 +1,4 @@
+pub mod EarlySteps
 pub mod EasedSteps
 pub mod Existence
 pub mod FixedStates

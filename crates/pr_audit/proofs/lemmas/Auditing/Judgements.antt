@@ -17,11 +17,12 @@ use Rattle.pr_cdb.specs.Requests.{AreBytes, request_of_wire}
 use Rattle.pr_unit.specs.Follows.{Follows}
 use Rattle.pr_unit.specs.Laws.{IsQuiet}
 use Rattle.pr_unit.specs.Replies.{refused_with}
-use Rattle.pr_unit.specs.SharedPaths.{FollowsShared}
+use Rattle.pr_unit.specs.SharedPaths.{Answering, FollowsShared}
+use Rattle.pr_unit.specs.EarlyReports.{FollowsEarly}
 use Rattle.pr_unit.specs.inside.SharedStates.{IsAtMost}
-use Rattle.pr_unit.proofs.lemmas.Steps.FixedStates.{step_fixed}
+use Rattle.pr_unit.proofs.lemmas.Steps.FixedStates.{step_fixed, reported_fixed}
 use Rattle.pr_unit.proofs.lemmas.Steps.QuietSteps.{same-quiet}
-use Rattle.pr_roles.specs.Answers.{status_of}
+use Rattle.pr_roles.specs.DeclaredRefusals.{status_of}
 use Rattle.pr_roles.specs.declared.how.How.TheVariants as how
 use Rattle.pr_audit.specs.declared.sender.Sender.{Sender}
 use Rattle.pr_audit.specs.declared.sender.Sender.TheVariants as sender
@@ -39,46 +40,63 @@ free_taken line l r = at (take l r)
 -- ---- how a request was answered
 
 -- where it may not be answered so nothing changes
-same_shared : (u : UnitState) (h : ℕ) (o : Result Request Bad) (r : Reply) (v : UnitState) → FollowsShared u h o r false v → v ≡ u
-same_shared u h (Ok q) r v none = none.0
-same_shared u h (Err bad) r v none = none
+same_shared : (answers : Request → Answering) (u : UnitState) (h : ℕ) (o : Result Request Bad) (v : UnitState) → FollowsShared answers u h o false v → v ≡ u
+same_shared answers u h (Ok q) v none = none.0
+same_shared answers u h (Err bad) v none = none
 
 same_alone : (u : UnitState) (h : ℕ) (o : Result Request Bad) (r : Reply) (v : UnitState) → Follows u h o r false v → v ≡ u
 same_alone u h (Ok q) r v none = none.0
 same_alone u h (Err bad) r v none = none
 
-pub answered_shared : (shared : Bool) → shared ≡ true → (k : How) → status_of k ≡ None → (u : UnitState) (e : Entry) (b : Bool) (v : UnitState) → FollowsShared u e.host (request_of_wire e.wire) e.reply b v
-    → IsAnswered shared k u e b v
-answered_shared false is k unit u e b v follows = absurd (false≢true is)
-answered_shared true is how.Busy unit u e b v follows = absurd (cc)
-answered_shared true is how.Full unit u e b v follows = absurd (cc)
-answered_shared true is how.Plain unit u e true v follows = λ q read.
-    let most = subst (λ o. FollowsShared u e.host o e.reply true v) read follows in
-    record {
-      answer = record { from = most.is.from; less = most.is.less; answer = most.is.step };
-      most = λ w x. most.most w (record { from = x.from; less = x.less; step = x.answer });
-    }
-answered_shared true is how.Plain unit u e false v follows = (
-  same_shared u e.host (request_of_wire e.wire) e.reply v follows,
-  λ q w read x. (subst (λ o. FollowsShared u e.host o e.reply false v) read follows).1 w (record { from = x.from; less = x.less; step = x.answer }),
+same_early : (u : UnitState) (h : ℕ) (o : Result Request Bad) (r : Reply) (v : UnitState) → FollowsEarly u h o r false v → v ≡ u
+same_early u h (Ok q) r v none = none.0
+same_early u h (Err bad) r v none = none
+
+on_shared : (k : How) (u : UnitState) (e : Entry) (b : Bool) (v : UnitState) → FollowsShared (λ q x y. Answers k x e.host q e.reply y) u e.host (request_of_wire e.wire) b v → IsAnswered true k u e b v
+on_shared k u e true v follows = λ q read.
+    let most = subst (λ o. FollowsShared (λ p x y. Answers k x e.host p e.reply y) u e.host o true v) read follows in
+    record { answer = most.is; most = most.most }
+on_shared k u e false v follows = (
+  same_shared (λ q x y. Answers k x e.host q e.reply y) u e.host (request_of_wire e.wire) v follows,
+  λ q w read x. (subst (λ o. FollowsShared (λ p x y. Answers k x e.host p e.reply y) u e.host o false v) read follows).1 w x,
 )
 
-pub answered_alone : (shared : Bool) → shared ≡ false → (k : How) → status_of k ≡ None → (u : UnitState) (e : Entry) (b : Bool) (v : UnitState) → Follows u e.host (request_of_wire e.wire) e.reply b v
-    → IsAnswered shared k u e b v
-answered_alone true is k unit u e b v follows = absurd (false≢true (sym is))
-answered_alone false is how.Busy unit u e b v follows = absurd (cc)
-answered_alone false is how.Full unit u e b v follows = absurd (cc)
-answered_alone false is how.Plain unit u e true v follows = λ q read.
+plain_alone : (u : UnitState) (e : Entry) (b : Bool) (v : UnitState) → Follows u e.host (request_of_wire e.wire) e.reply b v → IsAnswered false how.Plain u e b v
+plain_alone u e true v follows = λ q read.
     let step = subst (λ o. Follows u e.host o e.reply true v) read follows in
     record { answer = step; most = λ w other. step_fixed u e.host q e.reply w v other step }
-answered_alone false is how.Plain unit u e false v follows = (
+plain_alone u e false v follows = (
   same_alone u e.host (request_of_wire e.wire) e.reply v follows,
   λ q w read step. (subst (λ o. Follows u e.host o e.reply false v) read follows).1 w step,
 )
 
+early_alone : (u : UnitState) (e : Entry) (b : Bool) (v : UnitState) → FollowsEarly u e.host (request_of_wire e.wire) e.reply b v → IsAnswered false how.Early u e b v
+early_alone u e true v follows = λ q read.
+    let early = subst (λ o. FollowsEarly u e.host o e.reply true v) read follows in
+    record { answer = early; most = λ w other. reported_fixed u e.host q e.reply w v other.reports early.reports }
+early_alone u e false v follows = (
+  same_early u e.host (request_of_wire e.wire) e.reply v follows,
+  λ q w read early. (subst (λ o. FollowsEarly u e.host o e.reply false v) read follows).1 w early,
+)
+
+-- by the unit, on one path or the other
+module _ (shared : Bool) (k : How) (u : UnitState) (e : Entry) (b : Bool) (v : UnitState) where
+  answered_as : (path : Bool) (so : How) → shared ≡ path → k ≡ so → IsAnswered path so u e b v → IsAnswered shared k u e b v
+  answered_as path so one two is = subst (λ p. IsAnswered p k u e b v) (sym one) (subst (λ j. IsAnswered path j u e b v) (sym two) is)
+
+  pub answered_shared : (so : How) → shared ≡ true → k ≡ so → FollowsShared (λ q x y. Answers so x e.host q e.reply y) u e.host (request_of_wire e.wire) b v → IsAnswered shared k u e b v
+  answered_shared so one two follows = answered_as true so one two (on_shared so u e b v follows)
+
+  pub answered_alone : shared ≡ false → k ≡ how.Plain → Follows u e.host (request_of_wire e.wire) e.reply b v → IsAnswered shared k u e b v
+  answered_alone one two follows = answered_as false how.Plain one two (plain_alone u e b v follows)
+
+  pub answered_early : shared ≡ false → k ≡ how.Early → FollowsEarly u e.host (request_of_wire e.wire) e.reply b v → IsAnswered shared k u e b v
+  answered_early one two follows = answered_as false how.Early one two (early_alone u e b v follows)
+
 -- a refusal
 refused_on : (shared : Bool) (u : UnitState) (h : ℕ) (q : Request) (r : Reply) (k : How) (t : Status) → status_of k ≡ Some t → r ≡ refused_with t → AnswersMost shared k u h q r u
 refused_on shared u h q r how.Plain t is same = absurd (cc)
+refused_on shared u h q r how.Early t is same = absurd (cc)
 refused_on true u h q r how.Busy t is same = record {
   answer = record { from = u; less = same-quiet u h; answer = (same ∙ ap refused_with (sym (same_Some status.Busy t is)), refl) };
   most = λ w x. subst (IsQuiet u h) (sym x.answer.1) x.less;
@@ -92,6 +110,7 @@ refused_on false u h q r how.Full t is same = record { answer = (same ∙ ap ref
 
 not_refused : (shared : Bool) (u : UnitState) (h : ℕ) (q : Request) (r : Reply) (k : How) (t : Status) (w : UnitState) → status_of k ≡ Some t → (r ≡ refused_with t → ⊥) → AnswersOn shared k u h q r w → ⊥
 not_refused shared u h q r how.Plain t w is differs answer = absurd (cc)
+not_refused shared u h q r how.Early t w is differs answer = absurd (cc)
 not_refused true u h q r how.Busy t w is differs x = differs (x.answer.0 ∙ ap refused_with (same_Some status.Busy t is))
 not_refused true u h q r how.Full t w is differs x = differs (x.answer.0 ∙ ap refused_with (same_Some status.TaskFull t is))
 not_refused false u h q r how.Busy t w is differs x = differs (x.0 ∙ ap refused_with (same_Some status.Busy t is))
@@ -173,7 +192,9 @@ may_lead Free clauses u t e after v w One Other same leads may = (
 
 pub hosts-answer : (so : How) (u : UnitState) (h : ℕ) (q : Request) (r : Reply) (v : UnitState) → Answers so u h q r v → v.registry.hosts ≡ u.registry.hosts
 hosts-answer how.Plain u h q r v step = hosts-step u h q r v step
-hosts-answer _ u h q r v refused = ap (λ (x : UnitState). x.registry.hosts) refused.1
+hosts-answer how.Early u h q r v early = ap (λ (x : UnitState). x.registry.hosts) early.reports.after
+hosts-answer how.Busy u h q r v refused = ap (λ (x : UnitState). x.registry.hosts) refused.1
+hosts-answer how.Full u h q r v refused = ap (λ (x : UnitState). x.registry.hosts) refused.1
 
 hosts-on : (shared : Bool) (so : How) (u : UnitState) (h : ℕ) (q : Request) (r : Reply) (v : UnitState) → AnswersOn shared so u h q r v → v.registry.hosts ≡ u.registry.hosts
 hosts-on false so u h q r v answer = hosts-answer so u h q r v answer

@@ -1,13 +1,8 @@
 -- The items that some event adds to a world are just those that may come next.
-use Rattle.pr_audit.proofs.Common.{◌≡◌, ℕ, ◌<◌, ◌≤◌, Bool, true, false, List, [], ◌∷◌, ◌++◌, map, length, get_or, IsTrue, slice_get, slice_set, Some, None, Option, option_map, sym, refl, ap, ◌∙◌, subst, arith, option_map_or, map-set_same, false≢true, length-map, slice_get-map, slice_get-get_or, spelling, Command, Reply, Request, Plain, UnitState, ready, Answers, AnswersOn, how_of, may_come, Task, Scripted, Planned, Nexus, role, Scenario, Control, Clause, Going, Trapped, Free, standing_of, control_after, World, control, entry_of, Event, Host, Guest, UnitReset, Fetched, is_guest_task, Happens, Entry, How, Item, Sent, Reset, Adds, AddsAfterFetches, IsWorldOf, IsTried, is_free, ActFor, is_planned, IsJudged}
-use Rattle.std.proofs.Common.{◌||◌}
-use Rattle.std.proofs.lemmas.List.{append_cancel_left}
+use Rattle.pr_audit.proofs.Common.{◌≡◌, ℕ, ◌<◌, ◌≤◌, Bool, true, false, List, [], ◌∷◌, ◌++◌, map, length, get_or, IsTrue, slice_get, slice_set, Some, None, Option, option_map, sym, refl, ap, ◌∙◌, subst, arith, option_map_or, map-set_same, false≢true, length-map, slice_get-map, slice_get-get_or, spelling, Command, Reply, Request, Plain, UnitState, ready, Answers, AnswersOn, may_come, Task, Scripted, Planned, Nexus, role, Scenario, Control, Clause, Going, Trapped, Free, standing_of, control_after, World, control, entry_of, Event, Host, Guest, UnitReset, Fetched, is_guest_task, Happens, Entry, How, Item, Sent, Reset, Adds, AddsAfterFetches, IsWorldOf, IsTried, is_free, ActFor, is_planned, IsJudged}
+use Rattle.std.proofs.lemmas.List.{append_cancel_left, set-get_or}
 use Rattle.std.proofs.lemmas.Option.{slice_get_past}
-use Rattle.pr_cdb.specs.declared.reply.Status.{Status}
-use Rattle.pr_cdb.specs.declared.reply.Status.TheVariants as status
-use Rattle.pr_cdb.specs.Statuses.{is_busy_status, is_full_status}
 use Rattle.pr_cdb.specs.declared.wire.Wire.{Wire}
-use Rattle.pr_unit.proofs.lemmas.Steps.Statuses.{steps_are_never_busy}
 use Rattle.pr_roles.specs.declared.how.How.TheVariants as how
 use Rattle.pr_roles.specs.Worlds.{GuestSends, is_guest, after as world_after}
 use Rattle.pr_roles.proofs.lemmas.Worlds.Fetches.{fetches_reach_all}
@@ -17,12 +12,13 @@ use Rattle.pr_unit.specs.SharedPaths.{IsBelow}
 use Rattle.pr_unit.specs.inside.SharedStates.{IsAtMost}
 use Rattle.pr_unit.specs.UnitStates.{IsWellFormed, reset}
 use Rattle.pr_unit.proofs.lemmas.Steps.QuietSteps.{same-quiet}
-use Rattle.pr_unit.proofs.lemmas.Steps.SharedSteps.{at_most_below, below_through, reset_below, step_from_more}
+use Rattle.pr_unit.proofs.lemmas.Steps.SharedSteps.{at_most_below, below_through, early_from_more, reset_below, step_from_more}
 use Rattle.pr_registry.specs.Registrations.{State}
 use Rattle.pr_roles.specs.Permits.{is_permitted}
 use Rattle.pr_roles.specs.Worlds.{IsReset, after_reset, may_reset}
-use Rattle.pr_audit.specs.inside.Auditing.{MayCome, LeadsTo, LeadsToMost}
+use Rattle.pr_audit.specs.inside.Auditing.{AddsBy, IsBy, IsTriedBy, MayCome, LeadsTo, LeadsToMost}
 use Rattle.pr_audit.proofs.lemmas.Auditing.Histories.{one_longer}
+use Rattle.pr_audit.proofs.lemmas.Auditing.Ways.{may_way}
 use Rattle.pr_audit.proofs.lemmas.Auditing.Judgements.{may_lead, may_most, free_judged, hosts_judged}
 
 -- the world after this entry, of one that acts so then
@@ -84,68 +80,38 @@ adds_by so s w e Free after v is guest room may =
 
 -- ---- what an event adds may come
 
-by_unit : (t : Status) → (is_busy_status t || is_full_status t) ≡ false → how.Plain ≡ how_of t
-by_unit status.Good served = refl
-by_unit status.CheckCondition served = refl
-by_unit status.Conflict served = refl
-by_unit _ served = absurd (false≢true (sym served))
-
--- the status tells how a command was answered
-told_how : (so : How) (u : UnitState) (h : ℕ) (q : Request) (r : Reply) (v : UnitState) → Answers so u h q r v → so ≡ how_of r.status
-told_how how.Plain u h q r v step = let never = steps_are_never_busy u h q r v step in by_unit r.status (λ i. never.0 i || never.1 i)
-told_how _ u h q r v refused = ap (λ (x : Reply). how_of x.status) (sym refused.0)
-
--- the entry may come, and leads to this world; who sends what it likes is a guest
-pub record Comes (s : Scenario) (w : World) (e : Entry) (x : World) : Type 0 where
-  pub room : IsTrue (may_come s w.history e.host (how_of e.reply.status))
+-- the entry may come, answered so, and leads to this world; who sends what it likes is a guest
+pub record Comes (k : How) (s : Scenario) (w : World) (e : Entry) (x : World) : Type 0 where
+  pub room : IsTrue (may_come s w.history e.host k)
   pub after : Control
   pub unit : UnitState
-  pub may : MayCome (λ q v. Answers (how_of e.reply.status) w.unit e.host q e.reply v) (control w e.host) (role s e.host) w.unit.registry e after unit
+  pub may : MayCome (λ q v. Answers k w.unit e.host q e.reply v) (control w e.host) (role s e.host) w.unit.registry e after unit
   pub guest : is_free (control w e.host) ≡ true → is_guest s e.host ≡ true
   pub world : x ≡ with_entry w e after unit
 
 host_comes : (so : How) (s : Scenario) (w : World) (h line : ℕ) (c : Command) (r : Reply) (v : UnitState) (k : Control) → control w h ≡ k → standing_of k ≡ Some (ready line c)
-    → IsTrue (may_come s w.history h so) → Answers so w.unit h (Plain c) r v → Comes s w (entry_of h (spelling c) r) (world_after w h line (spelling c) r v)
-host_comes so s w h line c r v (Going l) is stands room answer =
-    let told = told_how so w.unit h (Plain c) r v answer in
-    record {
-      room = subst (λ k. IsTrue (may_come s w.history h k)) told room;
-      after = control_after line (control w h) r;
-      unit = v;
-      may = subst (λ k. MayCome (λ q x. Answers (how_of r.status) w.unit h q r x) k (role s h) w.unit.registry (entry_of h (spelling c) r) (control_after line k r) v) (sym is)
-          (record {
-            line = line;
-            command = c;
-            ready = stands;
-            wire = refl;
-            answer = subst (λ k. Answers k w.unit h (Plain c) r v) told answer;
-            takes = refl;
-          });
-      guest = λ free. let bad : false ≡ true = sym (ap is_free is) ∙ free in cc;
-      world = refl;
-    }
+    → IsTrue (may_come s w.history h so) → Answers so w.unit h (Plain c) r v → Comes so s w (entry_of h (spelling c) r) (world_after w h line (spelling c) r v)
+host_comes so s w h line c r v (Going l) is stands room answer = record {
+  room = room;
+  after = control_after line (control w h) r;
+  unit = v;
+  may = subst (λ k. MayCome (λ q x. Answers so w.unit h q r x) k (role s h) w.unit.registry (entry_of h (spelling c) r) (control_after line k r) v) (sym is)
+      (record { line = line; command = c; ready = stands; wire = refl; answer = answer; takes = refl });
+  guest = λ free. let bad : false ≡ true = sym (ap is_free is) ∙ free in cc;
+  world = refl;
+}
 host_comes so s w h line c r v _ is stands room answer = let bad : None ≡ Some (ready line c) = stands in cc
 
 guest_comes : (so : How) (s : Scenario) (w : World) (g : ℕ) (wire : Wire) (x : World) → control w g ≡ Free → (sends : GuestSends s w g wire so x)
-    → Comes s w (entry_of g wire sends.reply) (world_after w g 0 wire sends.reply sends.unit)
+    → Comes so s w (entry_of g wire sends.reply) (world_after w g 0 wire sends.reply sends.unit)
 guest_comes so s w g wire x is sends =
     let e = entry_of g wire sends.reply in
-    let told = told_how so w.unit g sends.request sends.reply sends.unit sends.answer in
     record {
-      room = subst (λ k. IsTrue (may_come s w.history g k)) told sends.room;
+      room = sends.room;
       after = control_after 0 (control w g) sends.reply;
       unit = sends.unit;
-      may = subst (λ k. MayCome (λ q x. Answers (how_of sends.reply.status) w.unit g q sends.reply x) k (role s g) w.unit.registry e (control_after 0 k sends.reply) sends.unit) (sym is) (
-        record {
-          bytes = sends.bytes;
-          lengths = sends.lengths;
-          request = sends.request;
-          read = sends.read;
-          answer = subst (λ k. Answers k w.unit g sends.request sends.reply sends.unit) told sends.answer;
-          permitted = sends.permitted;
-        },
-        refl,
-      );
+      may = subst (λ k. MayCome (λ q x. Answers so w.unit g q sends.reply x) k (role s g) w.unit.registry e (control_after 0 k sends.reply) sends.unit) (sym is)
+          (record { bytes = sends.bytes; lengths = sends.lengths; request = sends.request; read = sends.read; answer = sends.answer; permitted = sends.permitted }, refl);
       guest = λ free. sends.guest;
       world = refl;
     }
@@ -157,20 +123,33 @@ same_item es fs i j one two = let same : i ∷ [] ≡ j ∷ [] = append_cancel_l
 pub same_entry : (es fs : List Item) (d e : Entry) → fs ≡ es ++ Sent d ∷ [] → fs ≡ es ++ Sent e ∷ [] → d ≡ e
 same_entry es fs d e one two = let same : Sent d ≡ Sent e = same_item es fs (Sent d) (Sent e) one two in cc
 
-comes_as : (s : Scenario) (w : World) (d e : Entry) (x y : World) → d ≡ e → y ≡ x → Comes s w d y → Comes s w e x
-comes_as s w d e x y one two comes = subst (λ z. Comes s w e z) two (subst (λ f. Comes s w f y) one comes)
+comes_as : (k : How) (s : Scenario) (w : World) (d e : Entry) (x y : World) → d ≡ e → y ≡ x → Comes k s w d y → Comes k s w e x
+comes_as k s w d e x y one two comes = subst (λ z. Comes k s w e z) two (subst (λ f. Comes k s w f y) one comes)
 
-comes_by : (s : Scenario) (w : World) (e : Entry) (x : World) (event : Event) → ((g : ℕ) → is_guest s g ≡ true → control w g ≡ Free) → Happens s w event x → x.history ≡ w.history ++ Sent e ∷ []
-    → Comes s w e x
-comes_by s w e x (Host h so) free sends added =
+comes_by : (k : How) (s : Scenario) (w : World) (e : Entry) (x : World) (event : Event) → IsBy k event → ((g : ℕ) → is_guest s g ≡ true → control w g ≡ Free) → Happens s w event x → x.history ≡ w.history ++ Sent e ∷ []
+    → Comes k s w e x
+comes_by k s w e x (Host h so) by free sends added =
     let same = same_entry w.history x.history (entry_of h (spelling sends.command) sends.reply) e (ap (λ z. z.history) sends.world) added in
-    comes_as s w _ e x _ same (sym sends.world) (host_comes so s w h sends.line sends.command sends.reply sends.unit (control w h) refl sends.ready sends.room sends.answer)
-comes_by s w e x (Guest g wire so) free sends added =
+    subst (λ j. Comes j s w e x) by
+    (comes_as so s w _ e x _ same (sym sends.world) (host_comes so s w h sends.line sends.command sends.reply sends.unit (control w h) refl sends.ready sends.room sends.answer))
+comes_by k s w e x (Guest g wire so) by free sends added =
     let same = same_entry w.history x.history (entry_of g wire sends.reply) e (ap (λ z. z.history) sends.world) added in
-    comes_as s w _ e x _ same (sym sends.world) (guest_comes so s w g wire x (free g sends.guest) sends)
-comes_by s w e x UnitReset free resets added =
+    subst (λ j. Comes j s w e x) by (comes_as so s w _ e x _ same (sym sends.world) (guest_comes so s w g wire x (free g sends.guest) sends))
+comes_by k s w e x UnitReset by free resets added = absurd by
+comes_by k s w e x (Fetched h code) by free fetched added = absurd by
+
+-- what adds an entry does so in some way
+in_some_way : (s : Scenario) (w : World) (e : Entry) (x : World) (event : Event) → Happens s w event x → x.history ≡ w.history ++ Sent e ∷ [] → (k : How) × IsBy k event
+in_some_way s w e x (Host h so) sends added = (so, refl)
+in_some_way s w e x (Guest g wire so) sends added = (so, refl)
+in_some_way s w e x UnitReset resets added =
     let same = same_item w.history x.history Reset (Sent e) (ap (λ z. z.history) resets.world) added in cc
-comes_by s w e x (Fetched h code) free fetched added = absurd (one_longer w.history (Sent e) (sym (ap (λ z. z.history) fetched.world) ∙ added))
+in_some_way s w e x (Fetched h code) fetched added = absurd (one_longer w.history (Sent e) (sym (ap (λ z. z.history) fetched.world) ∙ added))
+
+pub added_by : (s : Scenario) (w : World) (e : Entry) (x : World) → Adds s w (Sent e) x → (k : How) × AddsBy k s w e x
+added_by s w e x adds =
+    let way = in_some_way s w e x adds.event adds.happens adds.added in
+    (way.0, record { event = adds.event; by = way.1; happens = adds.happens; added = adds.added })
 
 -- what adds a reset is one
 pub resets_by : (s : Scenario) (w x : World) → Adds s w Reset x → IsReset s w x
@@ -249,7 +228,10 @@ same_most false u h = refl
 answers_from_more : (s : Scenario) (so : How) (u x : UnitState) (h : ℕ) (q : Request) (r : Reply) (v : UnitState) → IsBelow s.shared u x → Answers so x h q r v → IsFromMore s so u h q r v
 answers_from_more s how.Plain u x h q r v below step =
     let more = step_from_more s.shared u x h below q r v step in
-    record { state = more.after; answer = on_path (s.shared h) how.Plain u more.from h q r more.after more.less more.step; below = more.below }
+    record { state = more.after; answer = on_path (s.shared h) how.Plain u more.from h q r more.after more.less more.answer; below = more.below }
+answers_from_more s how.Early u x h q r v below early =
+    let more = early_from_more s.shared u x h below q r v early in
+    record { state = more.after; answer = on_path (s.shared h) how.Early u more.from h q r more.after more.less more.answer; below = more.below }
 answers_from_more s how.Busy u x h q r v below refused = record {
   state = u;
   answer = on_path (s.shared h) how.Busy u u h q r u (same_most (s.shared h) u h) (refused.0, refl);
@@ -293,11 +275,8 @@ may_from_more s so Free clauses u x e after v below may =
 
 -- ---- what may come is added after fetches
 
-module _ (s : Scenario) (w : World) (e : Entry) (k after : Control) (v : UnitState) (formed : IsWellFormed w.unit) (is : control w e.host ≡ k) (guest : is_free k ≡ true → is_guest s e.host ≡ true)
-    (room : IsTrue (may_come s w.history e.host (how_of e.reply.status))) where
-  abbrev so : How
-  so = how_of e.reply.status
-
+module _ (so : How) (s : Scenario) (w : World) (e : Entry) (k after : Control) (v : UnitState) (formed : IsWellFormed w.unit) (is : control w e.host ≡ k)
+    (guest : is_free k ≡ true → is_guest s e.host ≡ true) (room : IsTrue (may_come s w.history e.host so)) where
   -- of one that is answered from this state
   from_there : (from : UnitState) → IsTrue (s.shared e.host) → IsQuiet w.unit e.host from → MayCome (λ q x. Answers so from e.host q e.reply x) k (role s e.host) from.registry e after v
       → AddsAfterFetches s w (Sent e) (with_entry w e after v)
@@ -343,40 +322,50 @@ module _ (s : Scenario) (w : World) (e : Entry) (k after : Control) (v : UnitSta
 
 -- ---- an entry that was judged
 
-pub comes : (s : Scenario) (w : World) (e : Entry) (x : World) → ActFor s w → Adds s w (Sent e) x → Comes s w e x
-comes s w e x acts adds = comes_by s w e x adds.event (guests_free s w acts) adds.happens adds.added
+pub comes : (k : How) (s : Scenario) (w : World) (e : Entry) (x : World) → ActFor s w → AddsBy k s w e x → Comes k s w e x
+comes k s w e x acts adds = comes_by k s w e x adds.event adds.by (guests_free s w acts) adds.happens adds.added
 
 -- in a world in which less is pending
-comes_below : (s : Scenario) (w x : World) (e : Entry) (k : Control) (y : World) → ActFor s w → control w e.host ≡ k → IsWorldOf s w x → (c : Comes s x e y)
-    → MayComeFromMore s (how_of e.reply.status) k (role s e.host) w.unit e c.after c.unit
-comes_below s w x e k y acts is of c =
-    may_from_more s (how_of e.reply.status) k (role s e.host) w.unit x.unit e c.after c.unit of.below
-    (subst (λ m. MayCome (λ q v. Answers (how_of e.reply.status) x.unit e.host q e.reply v) m (role s e.host) x.unit.registry e c.after c.unit) (ap (λ ks. option_map_or (λ m. m) (slice_get ks e.host) Free) of.controls ∙ is) c.may)
+comes_below : (so : How) (s : Scenario) (w x : World) (e : Entry) (k : Control) (y : World) → ActFor s w → control w e.host ≡ k → IsWorldOf s w x → (c : Comes so s x e y)
+    → MayComeFromMore s so k (role s e.host) w.unit e c.after c.unit
+comes_below so s w x e k y acts is of c =
+    may_from_more s so k (role s e.host) w.unit x.unit e c.after c.unit of.below
+    (subst (λ m. MayCome (λ q v. Answers so x.unit e.host q e.reply v) m (role s e.host) x.unit.registry e c.after c.unit) (ap (λ ks. option_map_or (λ m. m) (slice_get ks e.host) Free) of.controls ∙ is) c.may)
 
-pub judged_tried : (s : Scenario) (w : World) (e : Entry) (k after : Control) (b : Bool) (v : UnitState) → IsWellFormed w.unit → ActFor s w → e.host < length s.nexuses → control w e.host ≡ k
-    → IsTrue (may_come s w.history e.host (how_of e.reply.status)) → IsJudged (s.shared e.host) (how_of e.reply.status) k (role s e.host) w.unit e b after v → IsTried s w (Sent e) b (with_entry w e after v)
-judged_tried s w e k after true v formed acts there is room may = (
-  judged_adds s w e k after v formed is (λ free. free_guests s w e.host acts there (ap is_free is ∙ free)) room (s.shared e.host) refl may,
+-- one that was judged to come in some way leads on to no more than was judged, and in no other way
+judged_leads : (so : How) (s : Scenario) (w : World) (e : Entry) (k after : Control) (v : UnitState) → ActFor s w → control w e.host ≡ k
+    → IsJudged (s.shared e.host) so k (role s e.host) w.unit e true after v → (x y : World) → IsWorldOf s w x → Adds s x (Sent e) y → IsWorldOf s (with_entry w e after v) y
+judged_leads so s w e k after v acts is may x y of adds =
+    let by = added_by s x e y adds in
+    let c = comes by.0 s x e y (acts_below s w x of acts) by.1 in
+    let more = comes_below by.0 s w x e k y acts is of c in
+    let way = may_way (s.shared e.host) so by.0 w.unit e k (role s e.host) after c.after v more.state may more.may in
+    let so_may = subst (λ j. MayCome (LeadsTo (s.shared e.host) j w.unit e) k (role s e.host) w.unit.registry e c.after more.state) (sym way) more.may in
+    let most = may_most (s.shared e.host) so w.unit e k (role s e.host) after c.after v more.state may so_may in
+    subst (IsWorldOf s (with_entry w e after v)) (sym c.world) (record {
+      below = below_through s.shared v more.state c.unit (at_most_below s.shared v e.host more.state most.1) more.below;
+      controls = λ i. slice_set (of.controls i) e.host (most.0 i);
+      history = ap (λ es. es ++ Sent e ∷ []) of.history;
+    })
+
+pub judged_tried : (so : How) (s : Scenario) (w : World) (e : Entry) (k after : Control) (b : Bool) (v : UnitState) → IsWellFormed w.unit → ActFor s w → e.host < length s.nexuses → control w e.host ≡ k
+    → get_or w.controls e.host k ≡ k → IsTrue (may_come s w.history e.host so) → IsJudged (s.shared e.host) so k (role s e.host) w.unit e b after v → IsTriedBy so s w e b (with_entry w e after v)
+judged_tried so s w e k after true v formed acts there is found room may =
+    (judged_adds so s w e k after v formed is (λ free. free_guests s w e.host acts there (ap is_free is ∙ free)) room (s.shared e.host) refl may, judged_leads so s w e k after v acts is may)
+judged_tried so s w e k after false v formed acts there is found room not = (
+  not.1,
+  ap (slice_set w.controls e.host) (not.0 ∙ sym found) ∙ set-get_or w.controls e.host k,
   λ x y of adds.
-      let c = comes s x e y (acts_below s w x of acts) adds in
-      let more = comes_below s w x e k y acts is of c in
-      let most = may_most (s.shared e.host) (how_of e.reply.status) w.unit e k (role s e.host) after c.after v more.state may more.may in
-      subst (IsWorldOf s (with_entry w e after v)) (sym c.world) (record {
-        below = below_through s.shared v more.state c.unit (at_most_below s.shared v e.host more.state most.1) more.below;
-        controls = λ i. slice_set (of.controls i) e.host (most.0 i);
-        history = ap (λ es. es ++ Sent e ∷ []) of.history;
-      }),
+      let c = comes so s x e y (acts_below s w x of acts) adds in
+      let more = comes_below so s w x e k y acts is of c in
+      not.2 c.after more.state more.may,
 )
-judged_tried s w e k after false v formed acts there is room not =
-    λ x y of adds.
-    let c = comes s x e y (acts_below s w x of acts) adds in
-    let more = comes_below s w x e k y acts is of c in
-    not.2 c.after more.state more.may
 
 -- nobody sends under a number past the last
 pub none_past : (s : Scenario) (w : World) (e : Entry) (x : World) → ActFor s w → length s.nexuses ≤ e.host → Adds s w (Sent e) x → ⊥
 none_past s w e x acts past adds =
-    let c = comes s w e x acts adds in
+    let by = added_by s w e x adds in
+    let c = comes by.0 s w e x acts by.1 in
     let length : length w.controls ≡ length s.nexuses = sym (length-map w.controls is_free) ∙ (ap length acts.tasks ∙ length-map s.nexuses (λ n. is_planned n.task)) in
     let free : control w e.host ≡ Free = ap (λ o. option_map_or (λ c. c) o Free) (slice_get_past w.controls e.host (rw length past)) in
     let nobody : is_guest s e.host ≡ false = ap (λ o. is_guest_task (option_map_or (λ n. Some n.task) o None)) (slice_get_past s.nexuses e.host past) in
@@ -384,11 +373,11 @@ none_past s w e x acts past adds =
     cc
 
 -- whatever the answer, there is still one for each that the scenario declares
-pub judged_acts : (s : Scenario) (w : World) (e : Entry) (k after : Control) (b : Bool) (v : UnitState) (es : List Item) → ActFor s w → get_or w.controls e.host k ≡ k
-    → IsJudged (s.shared e.host) (how_of e.reply.status) k (role s e.host) w.unit e b after v → ActFor s (record { unit = v; controls = slice_set w.controls e.host after; history = es })
-judged_acts s w e k after b v es acts is judged = record {
-  hosts = hosts_judged (s.shared e.host) (how_of e.reply.status) (role s e.host) w.unit e k b after v judged ∙ acts.hosts;
-  tasks = map-set_same is_free w.controls e.host after k (free_judged (s.shared e.host) (how_of e.reply.status) (role s e.host) w.unit e k b after v judged ∙ ap is_free (sym is)) ∙ acts.tasks;
+pub judged_acts : (so : How) (s : Scenario) (w : World) (e : Entry) (k after : Control) (b : Bool) (v : UnitState) (es : List Item) → ActFor s w → get_or w.controls e.host k ≡ k
+    → IsJudged (s.shared e.host) so k (role s e.host) w.unit e b after v → ActFor s (record { unit = v; controls = slice_set w.controls e.host after; history = es })
+judged_acts so s w e k after b v es acts is judged = record {
+  hosts = hosts_judged (s.shared e.host) so (role s e.host) w.unit e k b after v judged ∙ acts.hosts;
+  tasks = map-set_same is_free w.controls e.host after k (free_judged (s.shared e.host) so (role s e.host) w.unit e k b after v judged ∙ ap is_free (sym is)) ∙ acts.tasks;
 }
 
 -- ---- a reset

@@ -8,7 +8,12 @@ use Rattle.pr_audit.specs.declared.sender.Sender.{Sender}
 use Rattle.pr_audit.specs.Auditors.{IsPast}
 use Rattle.pr_audit.specs.inside.Auditing.{AreFirstSenders}
 use Rattle.pr_audit.proofs.lemmas.Auditing.Parts.{count_of_parts, path_at, role_at}
-use Rattle.pr_audit.proofs.lemmas.Auditors.Additions.{judged_tried, judged_acts, acts_below, comes, none_past}
+use Rattle.pr_audit.specs.inside.Auditing.{AddsBy, IsTriedBy, IsTriedServed}
+use Rattle.pr_roles.specs.DeclaredRefusals.{is_served}
+use Rattle.pr_roles.specs.declared.how.How.TheVariants as how
+use Rattle.pr_unit.specs.SharedPaths.{IsBelow}
+use Rattle.pr_audit.proofs.lemmas.Auditing.Ways.{shown, shown_served, shown_refused, told_may}
+use Rattle.pr_audit.proofs.lemmas.Auditors.Additions.{added_by, judged_tried, judged_acts, acts_below, comes, none_past}
 
 -- ---- the senders
 
@@ -62,12 +67,54 @@ pub nobody_tried : (p q : Parts) (u : UnitState) (senders : List Sender) (e : En
 nobody_tried p q u senders e i n acts same at len past before x y of adds =
     none_past (scenario_of p) x e y (acts_below (scenario_of p) (world_of u senders before) x of (others_acts (scenario_of p) u senders [] before acts)) (past_parts p q e.host i n same at len past) adds
 
--- a refusal of which none is left
-pub none_tried : (so : How) (s : Scenario) (u : UnitState) (senders : List Sender) (e : Entry) (before : List Item) → ActFor s (world_of u senders []) → so ≡ how_of e.reply.status
-    → may_come s before e.host so ≡ false → (x y : World) → IsWorldOf s (world_of u senders before) x → Adds s x (Sent e) y → ⊥
-none_tried so s u senders e before acts told over x y of adds =
-    let room = (comes s x e y (acts_below s (world_of u senders before) x of (others_acts s u senders [] before acts)) adds).room in
-    false≢true (sym (subst (λ k. may_come s before e.host k ≡ false) told over) ∙ ap (λ es. may_come s es e.host (how_of e.reply.status)) (sym of.history) ∙ room)
+-- a way in which it may come no more
+pub none_tried : (so : How) (s : Scenario) (u : UnitState) (senders : List Sender) (e : Entry) (before : List Item) → ActFor s (world_of u senders [])
+    → may_come s before e.host so ≡ false → (x y : World) → IsWorldOf s (world_of u senders before) x → AddsBy so s x e y → ⊥
+none_tried so s u senders e before acts over x y of adds =
+    let room = (comes so s x e y (acts_below s (world_of u senders before) x of (others_acts s u senders [] before acts)) adds).room in
+    false≢true (sym over ∙ ap (λ es. may_come s es e.host so) (sym of.history) ∙ room)
+
+-- ---- both ways of the unit, and either refusal
+
+tried_from : (s : Scenario) (w m : World) (e : Entry) (k : How) → m.unit ≡ w.unit → m.controls ≡ w.controls → m.history ≡ w.history
+    → ((x y : World) → IsWorldOf s m x → AddsBy k s x e y → ⊥) → (x y : World) → IsWorldOf s w x → AddsBy k s x e y → ⊥
+tried_from s w m e k unit controls history none x y of adds =
+    none x y (record { below = subst (λ u. IsBelow s.shared u x.unit) (sym unit) of.below; controls = of.controls ∙ sym controls; history = of.history ∙ sym history }) adds
+
+module _ (s : Scenario) (e : Entry) (w m v : World) where
+  -- the second was tried where the first changed nothing
+  pub both_tried : (b : Bool) → IsTriedBy how.Plain s w e false m → IsTriedBy how.Early s (record m { history = w.history }) e b v → IsTriedServed s w e b v
+  both_tried true plain early = subst (λ x. IsTried s x (Sent e) true v) (λ i. record { unit = plain.0 i; controls = plain.1 i; history = w.history }) early
+  both_tried false plain early = each
+    where
+      each : (k : How) → IsTrue (is_served k) → (x y : World) → IsWorldOf s w x → AddsBy k s x e y → ⊥
+      each how.Plain served = plain.2
+      each how.Early served = tried_from s w (record m { history = w.history }) e how.Early plain.0 plain.1 refl early.2
+      each how.Busy served = let bad : false ≡ true = served in cc
+      each how.Full served = let bad : false ≡ true = served in cc
+
+-- an entry that some event adds is answered as its status says
+told_by : (k : How) (s : Scenario) (x : World) (e : Entry) (y : World) → ActFor s x → AddsBy k s x e y → shown k ≡ how_of e.reply.status
+told_by k s x e y acts adds = let is = comes k s x e y acts adds in told_may k (control x e.host) (role s e.host) x.unit e is.after is.unit is.may
+
+module _ (s : Scenario) (u : UnitState) (senders : List Sender) (e : Entry) (before : List Item) (acts : ActFor s (world_of u senders [])) where
+  abbrev at_first : World
+  at_first = world_of u senders before
+
+  shown_as : (k : How) (x y : World) → IsWorldOf s at_first x → AddsBy k s x e y → shown k ≡ how_of e.reply.status
+  shown_as k x y of adds = told_by k s x e y (acts_below s at_first x of (others_acts s u senders [] before acts)) adds
+
+  pub served_tried : (b : Bool) (v : World) → how.Plain ≡ how_of e.reply.status → IsTriedServed s at_first e b v → IsTried s at_first (Sent e) b v
+  served_tried true v told is = is
+  served_tried false v told none = λ x y of adds.
+      let by = added_by s x e y adds in
+      none by.0 (shown_served by.0 (shown_as by.0 x y of by.1 ∙ sym told)) x y of by.1
+
+  pub refusal_tried : (so : How) (b : Bool) (v : World) → so ≡ how_of e.reply.status → is_served so ≡ false → IsTriedBy so s at_first e b v → IsTried s at_first (Sent e) b v
+  refusal_tried so true v told refused is = is
+  refusal_tried so false v told refused none = λ x y of adds.
+      let by = added_by s x e y adds in
+      none.2 x y of (subst (λ k. AddsBy k s x e y) (shown_refused by.0 so refused (shown_as by.0 x y of by.1 ∙ sym told)) by.1)
 
 -- ---- the sender at a place
 
@@ -87,24 +134,23 @@ controls_with senders h i y at = map-set control_by senders i y ∙ ap (λ j. sl
 
 module _ (so : How) (p q : Parts) (u v : UnitState) (senders : List Sender) (e : Entry) (i : ℕ) (n : NexusPart) (x y : Sender) (b : Bool) (acts : ActFor (scenario_of p) (world_of u senders []))
     (there : e.host < length (scenario_of p).nexuses) (same : q ≡ p) (at : i ≡ e.host) (nexus : n ≡ get_or q.nexuses.items i n) (participation : x ≡ get_or senders i x)
-    (told : so ≡ how_of e.reply.status) (judged : IsJudged n.shared so (control_by x) n.role.clauses.items u e b (control_by y) v) where
-  by_role : IsJudged ((scenario_of p).shared e.host) (how_of e.reply.status) (control_by x) (role (scenario_of p) e.host) u e b (control_by y) v
+    (judged : IsJudged n.shared so (control_by x) n.role.clauses.items u e b (control_by y) v) where
+  by_role : IsJudged ((scenario_of p).shared e.host) so (control_by x) (role (scenario_of p) e.host) u e b (control_by y) v
   by_role =
       let named = nexus ∙ (ap (λ r. get_or r.nexuses.items i n) same ∙ ap (λ j. get_or p.nexuses.items j n) at) in
-      subst (λ shared. IsJudged shared (how_of e.reply.status) (control_by x) (role (scenario_of p) e.host) u e b (control_by y) v) (path_at p e.host n there named)
-      (subst (λ clauses. IsJudged n.shared (how_of e.reply.status) (control_by x) clauses u e b (control_by y) v) (role_at p e.host n there named)
-      (subst (λ k. IsJudged n.shared k (control_by x) n.role.clauses.items u e b (control_by y) v) told judged))
+      subst (λ shared. IsJudged shared so (control_by x) (role (scenario_of p) e.host) u e b (control_by y) v) (path_at p e.host n there named)
+      (subst (λ clauses. IsJudged n.shared so (control_by x) clauses u e b (control_by y) v) (role_at p e.host n there named) judged)
 
-  pub sender_tried : IsWellFormed u → (before : List Item) → may_come (scenario_of p) before e.host so ≡ true → IsTried (scenario_of p) (world_of u senders before) (Sent e) b (world_of v (slice_set senders i y) (before ++ Sent e ∷ []))
+  pub sender_tried : IsWellFormed u → (before : List Item) → may_come (scenario_of p) before e.host so ≡ true → IsTriedBy so (scenario_of p) (world_of u senders before) e b (world_of v (slice_set senders i y) (before ++ Sent e ∷ []))
   sender_tried formed before room =
-      subst (λ ks. IsTried (scenario_of p) (world_of u senders before) (Sent e) b (record { unit = v; controls = ks; history = before ++ Sent e ∷ [] })) (sym (controls_with senders e.host i y at))
-      (judged_tried (scenario_of p) (world_of u senders before) e (control_by x) (control_by y) b v formed (others_acts (scenario_of p) u senders [] before acts) there (control_at (scenario_of p) u senders before e.host i x acts there at participation)
-      (subst (λ k. IsTrue (may_come (scenario_of p) before e.host k)) told room) by_role)
+      subst (λ ks. IsTriedBy so (scenario_of p) (world_of u senders before) e b (record { unit = v; controls = ks; history = before ++ Sent e ∷ [] })) (sym (controls_with senders e.host i y at))
+      (judged_tried so (scenario_of p) (world_of u senders before) e (control_by x) (control_by y) b v formed (others_acts (scenario_of p) u senders [] before acts) there (control_at (scenario_of p) u senders before e.host i x acts there at participation)
+      (sender_at senders e.host i x at participation) room by_role)
 
   pub sender_acts : ActFor (scenario_of p) (world_of v (slice_set senders i y) [])
   sender_acts =
       subst (λ ks. ActFor (scenario_of p) (record { unit = v; controls = ks; history = [] })) (sym (controls_with senders e.host i y at))
-      (judged_acts (scenario_of p) (world_of u senders []) e (control_by x) (control_by y) b v [] acts (sender_at senders e.host i x at participation) by_role)
+      (judged_acts so (scenario_of p) (world_of u senders []) e (control_by x) (control_by y) b v [] acts (sender_at senders e.host i x at participation) by_role)
 
 -- ---- an entry that is taken as it is
 

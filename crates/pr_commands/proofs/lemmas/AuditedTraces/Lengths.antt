@@ -102,18 +102,18 @@ steps_fit version n few = at (version == 1)
     at true = omega (arith, few)
     at false = omega (arith, few)
 
--- version 1 has no resets, and 2 no more than 1,000
+-- version 1 has no resets, and later ones no more than 1,000
 few_resets : (version n : ℕ) → are_resets version n ≡ true → n ≤ (if version == 1 then 0 else 1000)
-few_resets version n fit = at (version == 1) refl (or_cases (n == 0) (version == 2 && nat_le n MOST_RESETS) fit)
+few_resets version n fit = at (version == 1) refl (or_cases (n == 0) (nat_le 2 version && nat_le n MOST_RESETS) fit)
   where
-    at : (b : Bool) → (version == 1) ≡ b → ((n == 0) ≡ true) ⊎ ((version == 2 && nat_le n MOST_RESETS) ≡ true) → n ≤ (if b then 0 else 1000)
+    at : (b : Bool) → (version == 1) ≡ b → ((n == 0) ≡ true) ⊎ ((nat_le 2 version && nat_le n MOST_RESETS) ≡ true) → n ≤ (if b then 0 else 1000)
     at true one (inl none) = grind (arith, nat_tests)
     at true one (inr later) =
-        let two = (and_parts (version == 2) (nat_le n MOST_RESETS) later).0 in
+        let two = (and_parts (nat_le 2 version) (nat_le n MOST_RESETS) later).0 in
         grind (arith, nat_tests)
     at false other (inl none) = grind (arith, nat_tests)
     at false other (inr later) =
-        let few = (and_parts (version == 2) (nat_le n MOST_RESETS) later).1 in
+        let few = (and_parts (nat_le 2 version) (nat_le n MOST_RESETS) later).1 in
         grind (arith, nat_tests)
 
 few_nexuses : (s : Scenario) → Fits s → length s.nexuses ≤ most_declared s.version

@@ -1,4 +1,4 @@
-use Rattle.pr_domain.proofs.Common.{◌≡◌, ◌==◌, sym, ◌∙◌, subst, inl, arith, false≢true, eq-eqb, eqb-true, has, ATTENTION_SETS}
+use Rattle.pr_domain.proofs.Common.{◌≡◌, ◌==◌, sym, ◌∙◌, subst, inl, arith, false≢true, eq-eqb, eqb-true, ATTENTION_SETS}
 use Rattle.pr_attention.proofs.lemmas.Bits.{same_bits}
 use Rattle.pr_regions.proofs.lemmas.Images.Unions.{union_grows, union_joined}
 use Rattle.pr_domain.specs.inside.Reporting.{IsAfter}

@@ -1,5 +1,5 @@
 -- What is added for each way in which a command can end.
-use Rattle.pr_domain.proofs.Common.{◌≡◌, ℕ, zero, suc, ◌+◌, ◌-◌, ◌<◌, ◌≤◌, false, ◌||◌, ◌↔◌, List, length, slice_get, Some, sym, refl, ap, ◌∙◌, subst, arith, lit<, has_wide, BitSet, Command, Reply, Sense, Plain, power_on, code_of, Attention, PowerOn, command_conflicts, command_fault, good, check, conflict, report, UnitState, is_pending, matches, Test, has_at, Item, Registration, Reservation, Attentions, View, Possibilities, IsClass, IsLanding, Good, Landing, Unserved, AreReported, AreMore, Ending, Reports, Conflicts, Fails, EndsGood, Refuses, refusal, Ends, landing_at, LandsBy, LandsGood, view_of_sending, IsOfWayAt, LandsOf, IsRegistered, has_part, Leaves, ATTENTION_SETS, MOST_ARMS, scope_of_sending, MayReport}
+use Rattle.pr_domain.proofs.Common.{◌≡◌, ℕ, Bool, true, zero, suc, ◌+◌, ◌-◌, ◌<◌, ◌≤◌, false, ◌||◌, ◌↔◌, List, length, slice_get, Some, sym, refl, ap, ◌∙◌, subst, arith, lit<, has_wide, BitSet, Command, Reply, Sense, Plain, power_on, code_of, Attention, PowerOn, command_conflicts, command_fault, good, check, conflict, report, UnitState, is_pending, matches, Test, has_at, Item, Registration, Reservation, Attentions, View, Possibilities, IsClass, IsLanding, Good, Landing, Unserved, AreReported, AreMore, Ending, Reports, Conflicts, Fails, EndsGood, Refuses, refusal, Ends, landing_at, LandsBy, LandsGood, view_of_sending, IsOfWayAt, LandsOf, IsRegistered, has_part, Leaves, ATTENTION_SETS, MOST_ARMS, scope_of_sending, MayReport, way_for}
 use Rattle.std.proofs.lemmas.List.Quantifiers.{position-Some}
 use Rattle.pr_script.specs.declared.script.Test.TheVariants as test
 use Rattle.pr_script.specs.declared.landing.Landing.TheVariants.{Arm, NoArm}
@@ -28,9 +28,9 @@ module _ (q : Sending) (tally : IsTallied q) where
 
   pub adds_power_on : (l : Landing) (p free either : Possibilities) (left : BitSet) → slice_get q.tally.now.ways 0 ≡ Some p → slice_get q.tally.now.ways 1 ≡ Some free
       → ((j : Item) → has_part either j ≡ (has_part p j || has_part free j)) → AreReported ATTENTION_SETS q.known.pending PowerOn left → IsLanding q.asked.tests.now (report (Plain q.asked.command) power_on) l
-      → IsAddedBy q (LandsOf q (Reports PowerOn)) l either left
+      → IsAddedBy q (LandsOf q (Reports false PowerOn)) l either left
   adds_power_on l p free either left first second is are landing =
-      by_reply (Reports PowerOn) l (IsRegistered (scope_of_sending q)) either left
+      by_reply (Reports false PowerOn) l (IsRegistered (scope_of_sending q)) either left
       (either_way (view_of_sending q) q.asked.command q.asked.tests.now q.tally.now p free either tally first second is)
       (told_power_on (scope_of_sending q) q.known q.asked.command q.asked.tests.now l left are landing)
       (λ u r w ends. subst (λ x. IsLanding q.asked.tests.now x l) (sym ends.1.1) landing)
@@ -44,15 +44,21 @@ module _ (q : Sending) (tally : IsTallied q) where
       (told_refusal (scope_of_sending q) q.known q.asked.command q.asked.tests.now l refused landing)
       (λ u r w ends. subst (λ x. IsLanding q.asked.tests.now x l) (sym ends.0) landing)
 
-  may : (a : Attention) → IsLater a → (u : UnitState) → MayReport q.asked.command q.sender u a ↔ ((is_pending u q.sender power_on ≡ false) × (command_conflicts u.registry q.sender q.asked.command ≡ false))
-  may a later u = (λ may_report. may_report later, λ both _. both)
+  may : (conflicting : Bool) (a : Attention) → IsLater a → (u : UnitState)
+      → MayReport q.asked.command q.sender u conflicting a ↔ ((is_pending u q.sender power_on ≡ false) × (command_conflicts u.registry q.sender q.asked.command ≡ conflicting))
+  may conflicting a later u = (λ may_report. may_report later, λ both _. both)
 
-  pub adds_report : (a : Attention) (l : Landing) (p : Possibilities) (calm left : BitSet) → IsLater a → slice_get q.tally.now.ways 1 ≡ Some p → AreCalm q.known calm → AreReported ATTENTION_SETS calm a left
-      → IsLanding q.asked.tests.now (report (Plain q.asked.command) (code_of a)) l → IsAddedBy q (LandsOf q (Reports a)) l p left
-  adds_report a l p calm left later second calms are landing =
-      by_reply (Reports a) l (Leaves (scope_of_sending q) q.asked.command q.asked.tests.now 1) p left
-      (way_of_tally (view_of_sending q) q.asked.command q.asked.tests.now q.tally.now 1 p tally second)
-      (told_later (scope_of_sending q) q.known q.asked.command q.asked.tests.now l a calm left (may a later) calms are landing)
+  left_by : (conflicting : Bool) (u : UnitState) (j : Item)
+      → Leaves (scope_of_sending q) q.asked.command q.asked.tests.now (way_for conflicting) u j ↔ ((command_conflicts u.registry q.sender q.asked.command ≡ conflicting) × IsRegistered (scope_of_sending q) u j)
+  left_by true u j = (λ is. is, λ is. is)
+  left_by false u j = (λ is. is, λ is. is)
+
+  pub adds_report : (conflicting : Bool) (a : Attention) (l : Landing) (p : Possibilities) (calm left : BitSet) → IsLater a → slice_get q.tally.now.ways (way_for conflicting) ≡ Some p → AreCalm q.known calm → AreReported ATTENTION_SETS calm a left
+      → IsLanding q.asked.tests.now (report (Plain q.asked.command) (code_of a)) l → IsAddedBy q (LandsOf q (Reports conflicting a)) l p left
+  adds_report conflicting a l p calm left later there calms are landing =
+      by_reply (Reports conflicting a) l (Leaves (scope_of_sending q) q.asked.command q.asked.tests.now (way_for conflicting)) p left
+      (way_of_tally (view_of_sending q) q.asked.command q.asked.tests.now q.tally.now (way_for conflicting) p tally there)
+      (told_later (scope_of_sending q) q.known q.asked.command q.asked.tests.now l conflicting a _ calm left (may conflicting a later) (left_by conflicting) calms are landing)
       (λ u r w ends. subst (λ x. IsLanding q.asked.tests.now x l) (sym ends.1.1) landing)
 
   pub adds_conflict : (l : Landing) (p : Possibilities) (calm : BitSet) → slice_get q.tally.now.ways 0 ≡ Some p → AreCalm q.known calm → IsLanding q.asked.tests.now conflict l

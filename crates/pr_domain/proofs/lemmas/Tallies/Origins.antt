@@ -5,10 +5,12 @@ use Rattle.pr_cdb.specs.declared.reply.Status.{Status}
 use Rattle.pr_cdb.specs.declared.reply.Status.TheVariants as status
 use Rattle.pr_cdb.specs.Ranges.{Fits as FitsCommand}
 use Rattle.pr_attention.proofs.lemmas.Bits.{flag_of, codes_of-without_flag, without_flag-lt}
+use Rattle.pr_unit.specs.Laws.{IsQuiet}
+use Rattle.pr_unit.proofs.lemmas.Steps.QuietSteps.{quiet_well_formed}
 use Rattle.pr_unit.proofs.lemmas.Steps.WellFormedSteps.{well_formed-step, hosts-step}
 use Rattle.pr_script.specs.declared.landing.Landing.TheVariants.{Arm, NoArm}
 use Rattle.pr_script.specs.declared.landing.Class.TheVariants.{Conflict, Busy, Full, Sense as WithSense}
-use Rattle.pr_domain.proofs.lemmas.Reporting.Ends.{steps_or_stays}
+use Rattle.pr_domain.proofs.lemmas.Reporting.Ends.{steps_or_quiet}
 use Rattle.pr_domain.proofs.lemmas.Reporting.OwnerStates.{after_reported, untold_pending, IsNumbered, numbered_after}
 
 -- ---- a reply lands in one place
@@ -71,14 +73,14 @@ pub record IsSettled (s : Scope) (w : UnitState) : Type 0 where
 
 module _ (v : View) (c : Command) (written : is_written v.scope.keys c ≡ true) (whole : FitsCommand c) (there : v.scope.own < v.scope.hosts) where
   registry_after : (ending : Ending) (u : UnitState) (r : Reply) (w : UnitState) → Ends ending c v.scope.own u r w → (w.registry ≡ u.registry) ⊎ (w ≡ effect u v.scope.own c)
-  registry_after (Reports a) u r w ends = inl (ap (λ (x : UnitState). x.registry) ends.1.2)
+  registry_after (Reports conflicting a) u r w ends = inl (ap (λ (x : UnitState). x.registry) ends.1.2)
   registry_after Conflicts u r w ends = inl (ap (λ (x : UnitState). x.registry) ends.3)
   registry_after Fails u r w ends = inl (ap (λ (x : UnitState). x.registry) ends.5)
   registry_after EndsGood u r w ends = inr ends.4
   registry_after (Refuses refused) u r w ends = inl (ap (λ (x : UnitState). x.registry) ends.1)
 
   pending_after : (ending : Ending) (u : UnitState) (r : Reply) (w : UnitState) (q : ℕ) → IsSo v.scope u (Attentions q) → Ends ending c v.scope.own u r w → (n : ℕ) × IsSo v.scope w (Attentions n)
-  pending_after (Reports a) u r w q so ends = (
+  pending_after (Reports conflicting a) u r w q so ends = (
     without q a,
     subst (λ x. IsSo v.scope x (Attentions (without q a))) (sym ends.1.2)
         (after_reported v.scope u a q _ so (without_flag-lt q a so.0, sym (so.1 (code_of a)) ∙ ends.1.0, codes_of-without_flag q a)),
@@ -91,19 +93,19 @@ module _ (v : View) (c : Command) (written : is_written v.scope.keys c ≡ true)
   pub settled : (ending : Ending) (u : UnitState) (r : Reply) (w : UnitState) → Shows v u → Ends ending c v.scope.own u r w → IsSettled v.scope w
   settled ending u r w shown ends =
       record {
-        formed = formed_after (steps_or_stays ending u v.scope.own c r w ends);
-        hosts = hosts_after (steps_or_stays ending u v.scope.own c r w ends);
+        formed = formed_after (steps_or_quiet ending u v.scope.own c r w ends);
+        hosts = hosts_after (steps_or_quiet ending u v.scope.own c r w ends);
         numbered = numbered;
         pending = pending_after ending u r w shown.pending.0 shown.pending.1.1 ends;
       }
     where
-      formed_after : Step u v.scope.own (Plain c) r w ⊎ (w ≡ u) → IsWellFormed w
+      formed_after : Step u v.scope.own (Plain c) r w ⊎ IsQuiet u v.scope.own w → IsWellFormed w
       formed_after (inl step) = well_formed-step u v.scope.own (Plain c) r w shown.formed (subst (λ n. v.scope.own < n) (sym shown.hosts) there) whole step
-      formed_after (inr same) = subst IsWellFormed (sym same) shown.formed
+      formed_after (inr quiet) = quiet_well_formed u w v.scope.own shown.formed quiet
 
-      hosts_after : Step u v.scope.own (Plain c) r w ⊎ (w ≡ u) → w.registry.hosts ≡ v.scope.hosts
+      hosts_after : Step u v.scope.own (Plain c) r w ⊎ IsQuiet u v.scope.own w → w.registry.hosts ≡ v.scope.hosts
       hosts_after (inl step) = hosts-step u v.scope.own (Plain c) r w step ∙ shown.hosts
-      hosts_after (inr same) = ap (λ (x : UnitState). x.registry.hosts) same ∙ shown.hosts
+      hosts_after (inr quiet) = ap (λ (x : State). x.hosts) quiet.registry ∙ shown.hosts
 
       numbered : (g : ℕ) → g < v.scope.hosts → (t : ℕ) × IsSo v.scope w (Registration g t)
       numbered g small = at (registry_after ending u r w ends)

@@ -47,7 +47,7 @@ module _ (s : Scope) (known : Possibilities) (c : Command) (tests : List Test) (
   -- ---- reports
 
   pub told_power_on : (left : BitSet) → AreReported ATTENTION_SETS known.pending PowerOn left → IsLanding tests (report (Plain c) power_on) l
-      → IsTold (view_in s known) c tests (Reports PowerOn) l (IsRegistered s) left
+      → IsTold (view_in s known) c tests (Reports false PowerOn) l (IsRegistered s) left
   told_power_on left are landing = record {
     forth = λ u r w j shown ends landed so. still_registered s u w j (ap (λ (x : UnitState). x.registry) ends.1.2) so;
     pends = λ u r w q n ends possible so left.
@@ -77,11 +77,12 @@ module _ (s : Scope) (known : Possibilities) (c : Command) (tests : List Test) (
       let both = and_parts (has known.pending q) (not (set.contains (codes_of q) power_on)) parts.0 in
       (both.0, not-true _ both.1)
 
-  pub told_later : (a : Attention) (calm left : BitSet) → ((u : UnitState) → MayReport c s.own u a ↔ ((is_pending u s.own power_on ≡ false) × (command_conflicts u.registry s.own c ≡ false)))
-      → AreCalm known calm → AreReported ATTENTION_SETS calm a left → IsLanding tests (report (Plain c) (code_of a)) l
-      → IsTold (view_in s known) c tests (Reports a) l (Leaves s c tests 1) left
-  told_later a calm left may calms are landing = record {
-    forth = λ u r w j shown ends landed so. (((may u).0 ends.0).1, still_registered s u w j (ap (λ (x : UnitState). x.registry) ends.1.2) so);
+  pub told_later : (conflicting : Bool) (a : Attention) (Left : UnitState → Item → Type 0) (calm left : BitSet)
+      → ((u : UnitState) → MayReport c s.own u conflicting a ↔ ((is_pending u s.own power_on ≡ false) × (command_conflicts u.registry s.own c ≡ conflicting)))
+      → ((u : UnitState) (j : Item) → Left u j ↔ ((command_conflicts u.registry s.own c ≡ conflicting) × IsRegistered s u j)) → AreCalm known calm → AreReported ATTENTION_SETS calm a left → IsLanding tests (report (Plain c) (code_of a)) l
+      → IsTold (view_in s known) c tests (Reports conflicting a) l Left left
+  told_later conflicting a Left calm left may leaves calms are landing = record {
+    forth = λ u r w j shown ends landed so. (leaves u j).1 (((may u).0 ends.0).1, still_registered s u w j (ap (λ (x : UnitState). x.registry) ends.1.2) so);
     pends = λ u r w q n ends possible so left.
         are.all q n so.0 (calm_from calm calms u q possible so ((may u).0 ends.0).0) (reported_after s u a q n so ends.1.0 (subst (λ x. IsSo s x (Attentions n)) ends.1.2 left));
     back = λ n has.
@@ -92,9 +93,9 @@ module _ (s : Scope) (known : Possibilities) (c : Command) (tests : List Test) (
           λ u j shown so pending. record {
             reply = report (Plain c) (code_of a);
             after = after_report u s.own (code_of a);
-            ends = ((may u).1 (pending.1 power_on ∙ known.1, so.0), (pending.1 (code_of a) ∙ found.3.1, refl, refl));
+            ends = ((may u).1 (pending.1 power_on ∙ known.1, ((leaves u j).0 so).0), (pending.1 (code_of a) ∙ found.3.1, refl, refl));
             landing = landing;
-            is = so_from_registered s (after_report u s.own (code_of a)) j (still_registered s (after_report u s.own (code_of a)) u j refl so.1);
+            is = so_from_registered s (after_report u s.own (code_of a)) j (still_registered s (after_report u s.own (code_of a)) u j refl ((leaves u j).0 so).1);
             left = after_reported s u a found.0 n pending found.3;
           },
         );

@@ -1,5 +1,5 @@
 use Rattle.std.specs.Prelude.{Bool, ℕ, ◌&&◌, ◌==◌, not}
-use Rattle.pr_domain.proofs.Common.{◌≡◌, BitSet, Option, true, false, sym, refl, ap, ◌∙◌, subst, option_map_or, has, has_wide, has_at, Possibilities, Reservation, Grows, HasOneOf, scope_at, has_tallied}
+use Rattle.pr_domain.proofs.Common.{◌≡◌, BitSet, Option, true, false, sym, refl, ap, ◌∙◌, subst, option_map_or, has, has_wide, has_at, Possibilities, Grows, HasOneOf, scope_at}
 use Rattle.pr_domain.specs.inside.Permitting.{view_of_asker}
 use Rattle.pr_domain.proofs.lemmas.Permitting.Permissions.{permitted_at, permitted_to_all, refused_at}
 use Rattle.pr_domain.proofs.lemmas.Tallies.ShownStates.{has_here}

@@ -1,4 +1,4 @@
-use Rattle.pr_domain.proofs.Common.{◌≡◌, ◌+◌, ◌⊎◌, true, All, sym, ◌∙◌, subst, inl, inr, arith, number_of, view_in, IsReserved, IsUnder, cases_eq, is_written, test_fits}
+use Rattle.pr_domain.proofs.Common.{◌≡◌, ◌+◌, true, All, sym, ◌∙◌, subst, inl, inr, arith, number_of, view_in, IsReserved, IsUnder, cases_eq, is_written, test_fits}
 use Rattle.std.proofs.Common.{⊎_elim}
 use Rattle.pr_domain.proofs.lemmas.Tallies.Growth.{grows_then}
 use Rattle.pr_domain.proofs.lemmas.Twins.RetypedStates.{twin_grows}

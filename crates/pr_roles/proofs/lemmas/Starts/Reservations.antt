@@ -18,7 +18,7 @@ can_start : (s : Scenario) → Fits s → (o : Option (Option Held × List (Opti
 unfolding at_zero
 can_start s fits None is some = absurd (false≢true some)
 can_start s fits (Some first) is some =
-    let kept : Fits (at_zero s) = record { version = fits.version; dated = fits.dated; resets = fits.resets; keys = fits.keys; reservations = fits.reservations; nexuses = fits.nexuses } in
+    let kept : Fits (at_zero s) = record { version = fits.version; dated = fits.dated; resets = fits.resets; order = fits.order; keys = fits.keys; reservations = fits.reservations; nexuses = fits.nexuses } in
     let allowed = (first_allowed (at_zero s) first.0 first.1 kept (lit< tt) is).1 in
     record {
       unit = quiet_unit (state_from first.1 first.0 0);

@@ -7,6 +7,10 @@ use Rattle.pr_cdb.specs.declared.wire.Request.{Request}
 use Rattle.pr_cdb.specs.declared.wire.Request.TheVariants.{Plain}
 use Rattle.pr_cdb.specs.Spelling.{spelling}
 use Rattle.pr_cdb.specs.Statuses.{is_busy_status, is_full_status}
+use Rattle.std.proofs.Common.{if◌then◌else◌}
+use Rattle.pr_cdb.specs.ReplyData.{sense_bytes}
+use Rattle.pr_unit.specs.Attentions.{attention_sense}
+use Rattle.pr_unit.specs.Replies.{good, check, is_request_sense}
 use Rattle.pr_unit.proofs.lemmas.Steps.Statuses.{steps_are_never_busy}
 use Rattle.pr_roles.specs.declared.item.Item.TheVariants.{Sent, Reset}
 use Rattle.pr_roles.specs.declared.how.How.TheVariants as how
@@ -14,13 +18,24 @@ use Rattle.pr_roles.specs.Answers.{Answers, is_refusal, is_refused, refusals_by,
 use Rattle.pr_roles.specs.Worlds.{Guest, UnitReset, Fetched, Happens, entry_of}
 use Rattle.pr_roles.specs.Laws.{is_same_refusal, is_refused_in, RefusalsAreCounted, RefusalsAreDeclared}
 
+-- a report is no refusal
+served : (b : Bool) (code : ℕ) → (is_busy_status (if b then good (sense_bytes (attention_sense code)) else check (attention_sense code)).status ≡ false)
+    × (is_full_status (if b then good (sense_bytes (attention_sense code)) else check (attention_sense code)).status ≡ false)
+served true code = (refl, refl)
+served false code = (refl, refl)
+
 -- the status tells how a command was answered
 pub told : (how other : How) (u : UnitState) (h : ℕ) (q : Request) (r : Reply) (v : UnitState) → Answers other u h q r v → is_refusal how r ≡ is_same_refusal how other
 told how.Plain other u h q r v is = refl
+told how.Early other u h q r v is = refl
+told how.Busy how.Early u h q r v is = ap (λ (x : Reply). is_busy_status x.status) is.reports.reply ∙ (served (is_request_sense q) is.reports.code).0
+told how.Full how.Early u h q r v is = ap (λ (x : Reply). is_full_status x.status) is.reports.reply ∙ (served (is_request_sense q) is.reports.code).1
 told how.Busy how.Plain u h q r v is = (steps_are_never_busy u h q r v is).0
 told how.Full how.Plain u h q r v is = (steps_are_never_busy u h q r v is).1
-told how.Busy _ u h q r v is = ap (λ x. is_busy_status x.status) is.0
-told how.Full _ u h q r v is = ap (λ x. is_full_status x.status) is.0
+told how.Busy how.Busy u h q r v is = ap (λ x. is_busy_status x.status) is.0
+told how.Busy how.Full u h q r v is = ap (λ x. is_busy_status x.status) is.0
+told how.Full how.Busy u h q r v is = ap (λ x. is_full_status x.status) is.0
+told how.Full how.Full u h q r v is = ap (λ x. is_full_status x.status) is.0
 
 pub counted_more : (es : List Item) (e : Entry) (h : ℕ) (how : How) → refusals_by (es ++ Sent e ∷ []) h how ≡ refusals_by es h how + cond (e.host == h && is_refusal how e.reply) 1 0
 counted_more es e h how = sum_by_push (λ x. cond (is_refused h how x) 1 0) es (Sent e)

@@ -55,9 +55,9 @@ resets_are_declared s u es w run = subst (λ n. n ≤ s.resets) (resets_are_coun
 -- ---- version 1
 
 none_declared : (n : ℕ) → are_resets 1 n ≡ true → n ≡ 0
-none_declared n is = at (or_cases (n == 0) (1 == 2 && nat_le n MOST_RESETS) is)
+none_declared n is = at (or_cases (n == 0) (nat_le 2 1 && nat_le n MOST_RESETS) is)
   where
-    at : ((n == 0) ≡ true) ⊎ ((1 == 2 && nat_le n MOST_RESETS) ≡ true) → n ≡ 0
+    at : ((n == 0) ≡ true) ⊎ ((nat_le 2 1 && nat_le n MOST_RESETS) ≡ true) → n ≡ 0
     at (inl none) = grind (arith, nat_tests)
     at (inr later) = absurd (false≢true later)
 

@@ -1,4 +1,4 @@
-use Rattle.pr_text.proofs.Common.{◌≡◌, ℕ, zero, suc, false, List, [], ◌∷◌, ◌++◌, map, sym, refl, ap, ◌∙◌, subst, nexus_written, nexus_declared, draft_seen}
+use Rattle.pr_text.proofs.Common.{◌≡◌, zero, suc, false, List, [], ◌∷◌, ◌++◌, map, sym, refl, ap, ◌∙◌, subst, nexus_written, nexus_declared, draft_seen}
 use Rattle.std.proofs.lemmas.List.{map-append}
 use Rattle.pr_text.specs.declared.draft.Draft.{Draft}
 use Rattle.pr_roles.specs.Scenarios.{nexus_of}

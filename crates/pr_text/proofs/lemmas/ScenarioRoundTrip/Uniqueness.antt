@@ -83,13 +83,13 @@ nexuses_same (m ∷ ms) (n ∷ ns) e = let first = nexus_same m n (head_same _ _
 nexuses_same _ _ e = cc
 
 scenario_same : (s t : Scenario) → s.version ≡ t.version → s.keys ≡ t.keys → s.reservations ≡ t.reservations → s.generation ≡ t.generation → s.resets ≡ t.resets
-    → ((h : ℕ) → s.shared h ≡ t.shared h) → s.nexuses ≡ t.nexuses → s ≡ t
-scenario_same s t v a b c r f d = λ i. record { version = v i; keys = a i; reservations = b i; generation = c i; resets = r i; shared = λ h. f h i; nexuses = d i }
+    → ((h : ℕ) → s.shared h ≡ t.shared h) → s.early ≡ t.early → s.nexuses ≡ t.nexuses → s ≡ t
+scenario_same s t v a b c r f o d = λ i. record { version = v i; keys = a i; reservations = b i; generation = c i; resets = r i; shared = λ h. f h i; early = o i; nexuses = d i }
 
 declared_same : (d : Declared) (s t : Scenario) → IsDeclaredBy d s → IsDeclaredBy d t → s ≡ t
 declared_same d s t p q =
     scenario_same s t (p.version ∙ sym q.version) (p.keys ∙ sym q.keys) (p.reservations ∙ sym q.reservations) (p.generation ∙ sym q.generation) (p.resets ∙ sym q.resets)
-    (λ h. p.alone h ∙ sym (q.alone h)) (nexuses_same s.nexuses t.nexuses (p.nexuses ∙ sym q.nexuses))
+    (λ h. p.alone h ∙ sym (q.alone h)) (p.order ∙ sym q.order) (nexuses_same s.nexuses t.nexuses (p.nexuses ∙ sym q.nexuses))
 
 along : (d e : Declared) (s t : Scenario) → d ≡ e → IsDeclaredBy d s → IsDeclaredBy e t → s ≡ t
 along d e s t same p q = declared_same d s t p (subst (λ x. IsDeclaredBy x t) (sym same) q)

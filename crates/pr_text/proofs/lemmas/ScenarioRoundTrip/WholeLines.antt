@@ -182,7 +182,7 @@ written_same n (x ∷ ns) are =
 -- ---- the whole
 
 pub said : ScenariosHaveNoFault
-said n s fits can alone are =
+said n s fits can alone order are =
     let keys = keys_kept s.keys in
     let resets = count_said s.resets in
     let version = s.version in
@@ -208,6 +208,6 @@ said n s fits can alone are =
           (details_all n version keys (Some s.reservations) (Some s.generation) resets [] s.nexuses dated fits.dated apart.0 each are))))));
       whole = record {
         faultless = ends n version keys (Some s.generation) resets s.nexuses s.reservations parts.0 (start_found s can);
-        kept = record { version = refl; keys = sym (keys_same s.keys); reservations = refl; generation = refl; resets = sym (count_same s.resets); alone = alone; nexuses = written_same n s.nexuses are };
+        kept = record { version = refl; keys = sym (keys_same s.keys); reservations = refl; generation = refl; resets = sym (count_same s.resets); alone = alone; order = order; nexuses = written_same n s.nexuses are };
       };
     }

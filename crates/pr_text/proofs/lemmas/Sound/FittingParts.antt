@@ -3,7 +3,7 @@ use Rattle.pr_text.proofs.Common.{◌≡◌, ℕ, true, not, ◌&&◌, List, [],
 use Rattle.std.proofs.lemmas.Bool.{not_from_false}
 use Rattle.std.proofs.lemmas.List.{length-map}
 use Rattle.std.proofs.lemmas.Simd.{map-map}
-use Rattle.pr_roles.specs.Fitting.{is_task, is_task_of, are_of}
+use Rattle.pr_roles.specs.Fitting.{is_task, is_task_of, are_of, is_order}
 use Rattle.pr_text.specs.inside.Endings.{missing_at}
 use Rattle.pr_text.specs.inside.Sound.{is_written_of, is_declared_of}
 use Rattle.pr_text.proofs.lemmas.Sound.Scripts.{skips}
@@ -82,6 +82,7 @@ declared_fits n d s sound dated faultless kept =
       version = ap is_version kept.version ∙ dated.version;
       dated = ap (λ v. are_of v s.nexuses) kept.version ∙ each_has d.version s.nexuses d.nexuses kept.nexuses dated.each;
       resets = ap (λ v. are_resets v s.resets) kept.version ∙ (ap (are_resets d.version) kept.resets ∙ dated.resets);
+      order = ap (is_order s.version) kept.order;
       keys = rw keys sound.keys;
       reservations = rw (kept.reservations, long) sound.reservations;
       nexuses = rw (long, named, keys) (

@@ -227,7 +227,7 @@ module _ (version : ℕ) (there : 1 ≤ version) where
   pub refused_is : (status : Status) → HasSense status None → 2 ≤ version → IsReply version (refused_with status)
   refused_is status has late = record { bytes = no_data version; status = le-leb (since status) version (let small = since_small status in omega arith); sense = has }
 
-  report_is : (q : Request) (code : ℕ) → is_attention code ≡ true → IsReply version (report q code)
+  pub report_is : (q : Request) (code : ℕ) → is_attention code ≡ true → IsReply version (report q code)
   report_is q code is = at (is_request_sense q) (attention_is code is)
     where
       at : (b : Bool) → IsSense (attention_sense code) → IsReply version (if b then good (sense_bytes (attention_sense code)) else check (attention_sense code))

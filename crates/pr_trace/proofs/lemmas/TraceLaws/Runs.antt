@@ -1,6 +1,6 @@
 -- The trace of a run is read back.
 use Rattle.pr_trace.proofs.Common.{◌≡◌, ℕ, zero, suc, ◌<◌, ◌≤◌, true, false, List, [], ◌∷◌, ◌++◌, map, length, drop, codes, nat_le, ◌==◌, Some, None, Ok, Err, Option, sym, refl, ap, ◌∙◌, subst, inl, inr, arith, nat_tests, Item, names_in, MOST_CDB_LENGTH, MOST_NEXUSES, PARAMETER_LIST_LENGTH, not, option_map_or, and_parts, Command, Reply, AreBytes, is_name, Fits, most_declared, Scenario, Nexus, IsItem, trace_of}
-use Rattle.std.specs.Prelude.{◌^◌, ◌⊎◌, ◌≢◌, ◌&&◌, Bool, IsTrue, is_some, slice_set}
+use Rattle.std.specs.Prelude.{◌^◌, ◌⊎◌, ◌≢◌, ◌&&◌, ◌||◌, Bool, IsTrue, is_some, slice_set}
 use Rattle.std.specs.List.{All, slice_get}
 use Rattle.std.proofs.lemmas.Bool.{false≢true, or_cases}
 use Rattle.std.proofs.lemmas.Bool.Decides.{eqb_tells}
@@ -40,7 +40,7 @@ use Rattle.pr_audit.specs.Ends.{Ending, stops, waits, traps, leaves, ending, end
 use Rattle.pr_trace.specs.TraceLaws.{IsEnding, TracesOfRunsAreRead}
 use Rattle.pr_trace.proofs.lemmas.TraceReadings.ScenarioNames.{names_count}
 use Rattle.pr_trace.proofs.lemmas.TraceLaws.Entries.{AreItems}
-use Rattle.pr_trace.proofs.lemmas.TraceLaws.Replies.{IsReply, SenseWhereRead, reads_senses, refused_is, step_is}
+use Rattle.pr_trace.proofs.lemmas.TraceLaws.Replies.{IsReply, SenseWhereRead, reads_senses, refused_is, report_is, step_is}
 use Rattle.pr_trace.proofs.lemmas.TraceLaws.Scripts.{ControlWritten, ControlsWritten, RestWritten, after_written, all_begun, one_written, ready_written, set_written}
 use Rattle.pr_roles.proofs.lemmas.Worlds.SpelledBytes.{are_bytes, are_short}
 use Rattle.pr_trace.proofs.lemmas.TraceLaws.Traces.{AreEndings, text_back}
@@ -53,28 +53,32 @@ few_nexuses s fits =
     let few = (and_parts (nat_le (length s.nexuses) (most_declared s.version)) _ parts.1).0 in
     grind (arith, nat_tests, few)
 
--- its version is one of the two
-dated : (s : Scenario) → Fits s → (s.version ≡ 1) ⊎ (s.version ≡ 2)
-dated s fits = at (or_cases (s.version == 1) (s.version == 2) fits.version)
+-- its version is the first, or a later one
+dated : (s : Scenario) → Fits s → (s.version ≡ 1) ⊎ (2 ≤ s.version)
+dated s fits = at (or_cases (s.version == 1) (s.version == 2 || s.version == 3) fits.version)
   where
-    at : ((s.version == 1) ≡ true) ⊎ ((s.version == 2) ≡ true) → (s.version ≡ 1) ⊎ (s.version ≡ 2)
+    later : ((s.version == 2) ≡ true) ⊎ ((s.version == 3) ≡ true) → 2 ≤ s.version
+    later (inl two) = grind (arith, nat_tests, two)
+    later (inr three) = grind (arith, nat_tests, three)
+
+    at : ((s.version == 1) ≡ true) ⊎ ((s.version == 2 || s.version == 3) ≡ true) → (s.version ≡ 1) ⊎ (2 ≤ s.version)
     at (inl one) = inl (grind (arith, nat_tests, one))
-    at (inr two) = inr (grind (arith, nat_tests, two))
+    at (inr other) = inr (later (or_cases (s.version == 2) (s.version == 3) other))
 
 first : (s : Scenario) → Fits s → 1 ≤ s.version
 first s fits = at (dated s fits)
   where
-    at : (s.version ≡ 1) ⊎ (s.version ≡ 2) → 1 ≤ s.version
+    at : (s.version ≡ 1) ⊎ (2 ≤ s.version) → 1 ≤ s.version
     at (inl one) = omega (arith, one)
-    at (inr two) = omega (arith, two)
+    at (inr later) = omega (arith, later)
 
--- where the unit refuses a command, or is reset, it is the second
+-- where the unit refuses a command, or is reset, it is a later one
 second : (s : Scenario) → Fits s → (s.version ≡ 1 → ⊥) → 2 ≤ s.version
-second s fits later = at (dated s fits)
+second s fits other = at (dated s fits)
   where
-    at : (s.version ≡ 1) ⊎ (s.version ≡ 2) → 2 ≤ s.version
-    at (inl one) = absurd (later one)
-    at (inr two) = omega (arith, two)
+    at : (s.version ≡ 1) ⊎ (2 ≤ s.version) → 2 ≤ s.version
+    at (inl one) = absurd (other one)
+    at (inr later) = later
 
 refuses : (s : Scenario) (history : List Item) (h : ℕ) (k : How) → Fits s → IsTrue (may_come s history h k) → (k ≡ how.Plain → ⊥) → 2 ≤ s.version
 refuses s history h k fits may apart = second s fits (λ one. apart (first_version_is_plain s fits one history h k may))
@@ -170,11 +174,18 @@ module _ (s : Scenario) (fits : Fits s) (w : World) (underway : IsUnderway s w) 
 
   answer_is : (h : ℕ) (k : How) (q : Request) (r : Reply) (v : UnitState) → IsTrue (may_come s w.history h k) → SenseWhereRead (Ok q) → Answers k w.unit h q r v → IsReply s.version r
   answer_is h how.Plain q r v may read is = step_is s.version (first s fits) w.unit h q r v underway.formed hosts_fit read is
+  answer_is h how.Early q r v may read is =
+      let reports = is.reports in
+      subst (IsReply s.version) (sym reports.reply) (report_is s.version (first s fits) q reports.code (underway.formed.pending h reports.code reports.pending).1)
   answer_is h k q r v may read is =
       subst (IsReply s.version) (sym is.0) (refused_is s.version (first s fits) _ tt (refuses s w.history h k fits may (λ same. let bad : k ≡ how.Plain = same in cc)))
 
   unit_is : (h : ℕ) (k : How) (q : Request) (r : Reply) (v : UnitState) → (Step w.unit h q r v → IsWellFormed v) → Answers k w.unit h q r v → IsWellFormed v × (v.registry.hosts ≡ length s.nexuses)
   unit_is h how.Plain q r v step is = (step is, hosts-step w.unit h q r v is ∙ underway.hosts)
+  unit_is h how.Early q r v step is = (
+    subst IsWellFormed (sym is.reports.after) (well_formed-reported w.unit h is.reports.code underway.formed),
+    ap (λ (x : UnitState). x.registry.hosts) is.reports.after ∙ underway.hosts,
+  )
   unit_is h _ q r v step is = (subst IsWellFormed (sym is.1) underway.formed, ap (λ (x : UnitState). x.registry.hosts) is.1 ∙ underway.hosts)
 
   -- after a command of h

@@ -88,19 +88,19 @@ same_state v w h none less = λ i. record { registry = less.registry i; pending 
     same : w.pending ≡ v.pending
     same = same_pairs w.pending v.pending (λ p. at p.0 p.1 (eqb_tells p.0 h))
 
-reports_power_on : (u w : UnitState) (h : ℕ) (q : Request) (r : Reply) → is_pending u h power_on ≡ true → r ≡ report q power_on → IsQuiet (after_report u h power_on) h w → IsFromLess u h q r w
+reports_power_on : (u w : UnitState) (h : ℕ) (q : Request) (r : Reply) → is_pending u h power_on ≡ true → r ≡ report q power_on → IsQuiet (after_report u h power_on) h w → IsFromLess (λ x y. Step x h q r y) u h w
 reports_power_on u w h q r here reply less = record {
   from = unreported w h power_on;
   less = unreported-quiet u w h power_on here less;
-  step = let is = now_pending w h power_on in rw is (reply, sym (back w h power_on (gone_reported u w h power_on less)));
+  answer = let is = now_pending w h power_on in rw is (reply, sym (back w h power_on (gone_reported u w h power_on less)));
 }
 
 reports_other : (u w : UnitState) (h : ℕ) (q : Request) (r : Reply) (code : ℕ) → IsWellFormed u → is_pending u h power_on ≡ false → conflicts u.registry h q ≡ false → is_pending u h code ≡ true → r ≡ report q code
-    → IsQuiet (after_report u h code) h w → IsFromLess u h q r w
+    → IsQuiet (after_report u h code) h w → IsFromLess (λ x y. Step x h q r y) u h w
 reports_other u w h q r code formed calm free here reply less = record {
   from = unreported w h code;
   less = eased;
-  step = let p = no_power_on in let c = no_conflict in let a = any in rw (a, c, p) (record { code = code; pending = now_pending w h code; reply = reply; after = sym (back w h code (gone_reported u w h code less)) });
+  answer = let p = no_power_on in let c = no_conflict in let a = any in rw (a, c, p) (record { code = code; pending = now_pending w h code; reply = reply; after = sym (back w h code (gone_reported u w h code less)) });
 }
   where
     eased : IsQuiet u h (unreported w h code)
@@ -115,8 +115,8 @@ reports_other u w h q r code formed calm free here reply less = record {
     any : is_any_pending (unreported w h code) h ≡ true
     any = one_of (is_pending (unreported w h code) h) code attentions (formed.pending h code here).1 (now_pending w h code)
 
-conflicts_still : (u w : UnitState) (h : ℕ) (q : Request) (r : Reply) → is_pending u h power_on ≡ false → conflicts u.registry h q ≡ true → IsQuiet u h w → Step u h q r u → IsFromLess u h q r w
-conflicts_still u w h q r calm kept less step = record { from = w; less = less; step = again }
+conflicts_still : (u w : UnitState) (h : ℕ) (q : Request) (r : Reply) → is_pending u h power_on ≡ false → conflicts u.registry h q ≡ true → IsQuiet u h w → Step u h q r u → IsFromLess (λ x y. Step x h q r y) u h w
+conflicts_still u w h q r calm kept less step = record { from = w; less = less; answer = again }
   where
     no_power_on : is_pending w h power_on ≡ false
     no_power_on = false_from_ne_true _ (λ is. false≢true (sym calm ∙ less.own power_on is))
@@ -128,22 +128,22 @@ conflicts_still u w h q r calm kept less step = record { from = w; less = less; 
     again = let s = rw (kept, calm) at step in let c = conflict_there in let p = no_power_on in rw (c, p) (s.0, refl)
 
 -- where nothing is pending nothing can be gone
-nothing_gone : (u v w : UnitState) (h : ℕ) (q : Request) (r : Reply) → ((code : ℕ) → is_pending v h code ≡ false) → Step u h q r v → IsQuiet v h w → IsFromLess u h q r w
-nothing_gone u v w h q r none step less = record { from = u; less = same-quiet u h; step = subst (Step u h q r) (sym (same_state v w h none less)) step }
+nothing_gone : (u v w : UnitState) (h : ℕ) (q : Request) (r : Reply) → ((code : ℕ) → is_pending v h code ≡ false) → Step u h q r v → IsQuiet v h w → IsFromLess (λ x y. Step x h q r y) u h w
+nothing_gone u v w h q r none step less = record { from = u; less = same-quiet u h; answer = subst (Step u h q r) (sym (same_state v w h none less)) step }
 
 made_by : (u v : UnitState) (h : ℕ) (q : Request) (r : Reply) → IsDone u h q r v → (c : Command) × (v ≡ effect u h c)
 made_by u v h (Plain c) r s = (c, s.1)
 made_by u v h (Faulty sense) r s = absurd s
 
 -- where less is pending in a state after a step than the step leaves, less was pending before it
-pub eased_steps : (u : UnitState) (h : ℕ) (q : Request) (r : Reply) (v w : UnitState) → IsWellFormed u → Step u h q r v → IsQuiet v h w → IsFromLess u h q r w
+pub eased_steps : (u : UnitState) (h : ℕ) (q : Request) (r : Reply) (v w : UnitState) → IsWellFormed u → Step u h q r v → IsQuiet v h w → IsFromLess (λ x y. Step x h q r y) u h w
 eased_steps u h q r v w formed step less = at (is_pending u h power_on) (conflicts u.registry h q) (is_any_pending u h) (fault u.registry h q) refl refl refl refl
   where
-    done : (q : Request) → is_any_pending u h ≡ false → Step u h q r v → (v ≡ u) ⊎ ((c : Command) × (v ≡ effect u h c)) → IsFromLess u h q r w
+    done : (q : Request) → is_any_pending u h ≡ false → Step u h q r v → (v ≡ u) ⊎ ((c : Command) × (v ≡ effect u h c)) → IsFromLess (λ x y. Step x h q r y) u h w
     done q any step (inl same) = nothing_gone u v w h q r (λ code. ap (λ x. is_pending x h code) same ∙ quiet_all u h formed any code) step less
     done q any step (inr made) = nothing_gone u v w h q r (λ code. ap (λ x. is_pending x h code) made.1 ∙ own_pending u h made.0 code ∙ quiet_all u h formed any code) step less
 
-    at : (p c a : Bool) (f : Option Sense) → is_pending u h power_on ≡ p → conflicts u.registry h q ≡ c → is_any_pending u h ≡ a → fault u.registry h q ≡ f → IsFromLess u h q r w
+    at : (p c a : Bool) (f : Option Sense) → is_pending u h power_on ≡ p → conflicts u.registry h q ≡ c → is_any_pending u h ≡ a → fault u.registry h q ≡ f → IsFromLess (λ x y. Step x h q r y) u h w
     at true c a f p_is c_is a_is f_is = let s = rw p_is at step in (reports_power_on u w h q r p_is s.0 (subst (λ x. IsQuiet x h w) s.1 less))
     at false true a f p_is c_is a_is f_is =
         let s = rw (p_is, c_is) at step in

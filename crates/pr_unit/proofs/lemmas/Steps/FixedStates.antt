@@ -37,7 +37,7 @@ in_both : {A : Type 0} (P : A → Type 0) (b : Bool) (x y : A) → P x → P y �
 in_both P true x y one other = one
 in_both P false x y one other = other
 
-reported_fixed : (u : UnitState) (h : ℕ) (q : Request) (r : Reply) (v w : UnitState) → Reports u h q r v → Reports u h q r w → v ≡ w
+pub reported_fixed : (u : UnitState) (h : ℕ) (q : Request) (r : Reply) (v w : UnitState) → Reports u h q r v → Reports u h q r w → v ≡ w
 reported_fixed u h q r v w one other =
     one.after ∙ (ap (after_report u h) (one_report q one.code other.code (sym one.reply ∙ other.reply)) ∙ sym other.after)
 

@@ -15,9 +15,9 @@ use Rattle.pr_unit.specs.Attentions.{attentions}
 use Rattle.pr_unit.specs.Follows.{IsFollowed}
 use Rattle.pr_unit.specs.Laws.{IsQuiet, request_looks}
 use Rattle.pr_unit.specs.Replies.{conflict}
-use Rattle.pr_unit.specs.SharedPaths.{IsBelow, IsFromLess, IsFollowedShared, NoMore}
+use Rattle.pr_unit.specs.SharedPaths.{Answering, IsBelow, IsFromLess, IsFollowedShared, NoMore}
 use Rattle.pr_unit.specs.inside.SharedStates.{IsAtMost}
-use Rattle.pr_unit.specs.Steps.{Reports}
+use Rattle.pr_unit.specs.Steps.{Reports, ReportsEarly}
 use Rattle.pr_unit.specs.UnitStates.{change, reset}
 use Rattle.pr_unit.specs.SharedPaths.{silenced}
 use Rattle.pr_unit.specs.inside.Ways.{Tells, TellsAny, IsWayFor}
@@ -32,7 +32,7 @@ use Rattle.pr_unit.proofs.lemmas.Steps.WellFormedSteps.{well_formed-step}
 -- ---- less of what is pending for one host
 
 -- of one that is pending, what a report of another leaves
-kept : (u : UnitState) (h code x : ℕ) → x ≢ code → is_pending (after_report u h code) h x ≡ is_pending u h x
+pub kept : (u : UnitState) (h code x : ℕ) → x ≢ code → is_pending (after_report u h code) h x ≡ is_pending u h x
 kept u h code x other =
     contains-remove-pair u.pending (h, code) (h, x) ∙ ap (λ b. not ((h == h) && b) && set.contains u.pending (h, x)) (ne_eqb x code other)
     ∙ ap (λ b. not b && set.contains u.pending (h, x)) (and-false (h == h))
@@ -50,7 +50,7 @@ less_without u v h code less gone = record {
     at x is (inr other) = kept u h code x other.1 ∙ less.own x is
 
 -- a report of the same from less
-less_reported : (u v : UnitState) (h code : ℕ) → IsQuiet u h v → IsQuiet (after_report u h code) h (after_report v h code)
+pub less_reported : (u v : UnitState) (h code : ℕ) → IsQuiet u h v → IsQuiet (after_report u h code) h (after_report v h code)
 less_reported u v h code less = less_without u (after_report v h code) h code (less_of_less u v (after_report v h code) h less (reported-quiet v h code)) (reported-gone v h code)
 
 -- with nothing pending
@@ -143,7 +143,7 @@ record IsMet (way : UnitState) (h : ℕ) (q : Request) (r : Reply) (w : UnitStat
   pub step : Step way h q r state
   pub less : IsQuiet state h w
 
-module _ (u : UnitState) (h : ℕ) (q : Request) (r : Reply) (w : UnitState) (formed : IsWellFormed u) (x : IsFromLess u h q r w) where
+module _ (u : UnitState) (h : ℕ) (q : Request) (r : Reply) (w : UnitState) (formed : IsWellFormed u) (x : IsFromLess (λ x y. Step x h q r y) u h w) where
   abbrev way : UnitState
   way = after_report u h power_on
 
@@ -158,7 +158,7 @@ module _ (u : UnitState) (h : ℕ) (q : Request) (r : Reply) (w : UnitState) (fo
   calm_less calm = less_without u x.from h power_on x.less calm
 
   tells_power_on : Tells u h q r power_on → IsMet u h q r w
-  tells_power_on told = by (decided x.from h q r w x.step)
+  tells_power_on told = by (decided x.from h q r w x.answer)
     where
       reports : Step u h q r way
       reports = let here = told.0 in rw here (told.1, refl)
@@ -182,7 +182,7 @@ module _ (u : UnitState) (h : ℕ) (q : Request) (r : Reply) (w : UnitState) (fo
       other same = not (subst (Tells u h q r) same told)
 
   without_power_on : (Tells u h q r power_on → ⊥) → (conflicts u.registry h q ≡ true) ⊎ TellsAny u h q r → IsMet way h q r w
-  without_power_on not why = by (decided x.from h q r w x.step)
+  without_power_on not why = by (decided x.from h q r w x.answer)
     where
       before : (b : Bool) → conflicts x.from.registry h q ≡ b → conflicts u.registry h q ≡ b
       before b is = ap (λ g. conflicts g h q) (sym x.less.registry) ∙ is
@@ -205,7 +205,7 @@ module _ (u : UnitState) (h : ℕ) (q : Request) (r : Reply) (w : UnitState) (fo
       by (inr (inr s)) = silent s why
 
   with_nothing : conflicts u.registry h q ≡ false → (TellsAny u h q r → ⊥) → IsMet (silenced u h) h q r w
-  with_nothing free none = by (decided x.from h q r w x.step)
+  with_nothing free none = by (decided x.from h q r w x.answer)
     where
       by : IsDecided x.from h q r w → IsMet (silenced u h) h q r w
       by (inl (inl p)) = absurd (none (power_on, (x.less.own power_on p.here, p.reply)))
@@ -213,7 +213,7 @@ module _ (u : UnitState) (h : ℕ) (q : Request) (r : Reply) (w : UnitState) (fo
       by (inr (inl t)) = absurd (none (t.reports.code, (x.less.own t.reports.code t.reports.pending, t.reports.reply)))
       by (inr (inr s)) = record {
         state = w;
-        step = subst (λ (y : UnitState). Step y h q r w) (only_silenced u x.from h x.less (none_left s.none)) x.step;
+        step = subst (λ (y : UnitState). Step y h q r w) (only_silenced u x.from h x.less (none_left s.none)) x.answer;
         less = same-quiet w h;
       }
 
@@ -228,19 +228,19 @@ way-quiet u from h q r (inr (not, inl more)) = subst (IsQuiet u h) (sym more.1) 
 way-quiet u from h q r (inr (not, inr all)) = subst (IsQuiet u h) (sym all.2) (silenced-quiet u h)
 
 module _ (u way : UnitState) (h : ℕ) (q : Request) (r : Reply) (v : UnitState) (formed : IsWellFormed u) (is : IsWayFor u h q r way) where
-  pub followed_shared : IsFollowed way h q r true v → IsFollowedShared u h q r true v
+  pub followed_shared : IsFollowed way h q r true v → IsFollowedShared (λ x y. Step x h q r y) u h true v
   followed_shared step = record {
-    is = record { from = way; less = way-quiet u way h q r is; step = step };
+    is = record { from = way; less = way-quiet u way h q r is; answer = step };
     most = λ w x. let m = met u h q r w formed x way is in subst (λ (y : UnitState). IsQuiet y h w) (step_fixed way h q r m.state v m.step step) m.less;
   }
 
-  pub not_followed_shared : IsFollowed way h q r false v → IsFollowedShared u h q r false u
+  pub not_followed_shared : IsFollowed way h q r false v → IsFollowedShared (λ x y. Step x h q r y) u h false u
   not_followed_shared none = (refl, λ w x. let m = met u h q r w formed x way is in none.1 m.state m.step)
 
 pub well_formed-followed_shared : (u : UnitState) (h : ℕ) (q : Request) (r : Reply) (follows : Bool) (v : UnitState) → IsWellFormed u → h < u.registry.hosts → FitsWhereRead (Ok q)
-    → IsFollowedShared u h q r follows v → IsWellFormed v
+    → IsFollowedShared (λ x y. Step x h q r y) u h follows v → IsWellFormed v
 well_formed-followed_shared u h q r true v w there fits leaves =
-    well_formed-step leaves.is.from h q r v (quiet_well_formed u leaves.is.from h w leaves.is.less) (subst (λ (k : State). h < k.hosts) (sym leaves.is.less.registry) there) fits leaves.is.step
+    well_formed-step leaves.is.from h q r v (quiet_well_formed u leaves.is.from h w leaves.is.less) (subst (λ (k : State). h < k.hosts) (sym leaves.is.less.registry) there) fits leaves.is.answer
 well_formed-followed_shared u h q r false v w there fits same = subst IsWellFormed (sym same.0) w
 
 -- ---- the same step where more is pending for others
@@ -266,12 +266,12 @@ module _ (more : UnitState) (h : ℕ) (x : UnitState) where
   joined-others g code other = joined-contains g code ∙ ap (λ b. (is_pending more g code && not b) || (is_pending x g code && b)) (ne_eqb g h other)
       ∙ (λ i. and-true (is_pending more g code) i || and-false (is_pending x g code) i) ∙ or-false (is_pending more g code)
 
--- What comes of it: the same reply from that state, in which the same is pending for the host, and for others no less.
-pub record IsStepFromMore (shared : ℕ → Bool) (more : UnitState) (h : ℕ) (q : Request) (r : Reply) (v : UnitState) : Type 0 where
+-- What comes of it: the same answer from that state, in which the same is pending for the host, and for others no less.
+pub record IsFromMore (shared : ℕ → Bool) (more : UnitState) (h : ℕ) (answers : Answering) (v : UnitState) : Type 0 where
   pub from : UnitState
   pub less : IsAtMost (shared h) more h from
   pub after : UnitState
-  pub step : Step from h q r after
+  pub answer : answers from after
   pub below : IsBelow shared after v
 
 pub no_more_same : (b now before : Bool) → now ≡ before → NoMore b now before
@@ -319,19 +319,19 @@ module _ (shared : ℕ → Bool) (more x : UnitState) (h : ℕ) (below : IsBelow
       same : to.pending ≡ more.pending
       same = same_pairs to.pending more.pending (λ p. at p.0 p.1 (eqb_tells p.0 h))
 
-  pub step_from_more : (q : Request) (r : Reply) (v : UnitState) → Step x h q r v → IsStepFromMore shared more h q r v
+  pub step_from_more : (q : Request) (r : Reply) (v : UnitState) → Step x h q r v → IsFromMore shared more h (λ a b. Step a h q r b) v
   unfolding joined
   step_from_more q r v step = by (decided x h q r v step)
     where
       any : is_any_pending to h ≡ is_any_pending x h
       any = any_alike x to h still attentions
 
-      comes : (after then : UnitState) → Step to h q r after → v ≡ then → after.registry ≡ then.registry → ((g code : ℕ) → NoMore (shared g) (is_pending then g code) (is_pending after g code)) → IsStepFromMore shared more h q r v
+      comes : (after then : UnitState) → Step to h q r after → v ≡ then → after.registry ≡ then.registry → ((g code : ℕ) → NoMore (shared g) (is_pending then g code) (is_pending after g code)) → IsFromMore shared more h (λ a b. Step a h q r b) v
       comes after then step is registry pending = record {
         from = to;
         less = at_most (shared h) refl;
         after = after;
-        step = step;
+        answer = step;
         below = subst (IsBelow shared after) (sym is) (record { registry = sym registry; pending = pending });
       }
 
@@ -345,7 +345,7 @@ module _ (shared : ℕ → Bool) (more x : UnitState) (h : ℕ) (below : IsBelow
       )
       silent (Faulty sense) None calm free none is s = absurd s
 
-      by : IsDecided x h q r v → IsStepFromMore shared more h q r v
+      by : IsDecided x h q r v → IsFromMore shared more h (λ a b. Step a h q r b) v
       by (inl (inl p)) =
           let here = still power_on ∙ p.here in
           comes (after_report to h power_on) (after_report x h power_on) (rw here (p.reply, refl)) p.after refl (λ g code. reported_no_more (shared g) x to h power_on g code (no_more g code))
@@ -362,7 +362,19 @@ module _ (shared : ℕ → Bool) (more x : UnitState) (h : ℕ) (below : IsBelow
           t.reports.after refl (λ g other. reported_no_more (shared g) x to h code g other (no_more g other))
       by (inr (inr s)) =
           let made = silent q (fault x.registry h q) (still power_on ∙ s.calm) s.free (any ∙ s.none) refl s.step in
-          record { from = to; less = at_most (shared h) refl; after = made.0; step = made.1; below = made.2 }
+          record { from = to; less = at_most (shared h) refl; after = made.0; answer = made.1; below = made.2 }
+
+  pub early_from_more : (q : Request) (r : Reply) (v : UnitState) → ReportsEarly x h q r v → IsFromMore shared more h (λ a b. ReportsEarly a h q r b) v
+  unfolding joined
+  early_from_more q r v early =
+      let code = early.reports.code in
+      record {
+        from = to;
+        less = at_most (shared h) refl;
+        after = after_report to h code;
+        answer = record { calm = still power_on ∙ early.calm; kept = early.kept; reports = record { code = code; pending = still code ∙ early.reports.pending; reply = early.reports.reply; after = refl } };
+        below = subst (IsBelow shared (after_report to h code)) (sym early.reports.after) (record { registry = refl; pending = λ g other. reported_no_more (shared g) x to h code g other (no_more g other) });
+      }
 
 -- ---- states with less pending
 

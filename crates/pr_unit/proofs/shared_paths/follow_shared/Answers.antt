@@ -1,4 +1,4 @@
-use Rattle.pr_unit.proofs.Common.{◌≡◌, ℕ, Bool, true, false, List, sym, ap, subst, Codes, Reply, Request, Pairs, UnitState, IsWellFormed, table_pairs, unit_of}
+use Rattle.pr_unit.proofs.Common.{◌≡◌, ℕ, Bool, true, false, List, sym, ap, subst, Codes, Reply, Request, Pairs, UnitState, IsWellFormed, table_pairs, unit_of, Step}
 use Rattle.pr_registry.specs.Registrations.{State}
 use Rattle.pr_unit.specs.Follows.{IsFollowed}
 use Rattle.pr_unit.specs.SharedPaths.{IsFollowedShared}
@@ -22,12 +22,12 @@ module _ (registry : State) (table copy way : List Codes) (same : table_pairs co
   formed_way h q r formed is = quiet_well_formed u (unit_of registry way) h formed (way-quiet u (unit_of registry way) h q r (from_here h q r is))
 
   follows : (h : ℕ) (q : Request) (r : Reply) (b : Bool) (v : UnitState) → IsWellFormed u → IsWayFor (unit_of registry copy) h q r (unit_of registry way) → b ≡ true → IsFollowed (unit_of registry way) h q r b v
-      → IsFollowedShared u h q r b v
+      → IsFollowedShared (λ x y. Step x h q r y) u h b v
   follows h q r true v formed is so step = followed_shared u (unit_of registry way) h q r v formed (from_here h q r is) step
   follows h q r false v formed is so step = let bad : false ≡ true = so in cc
 
   stays : (h : ℕ) (q : Request) (r : Reply) (b : Bool) (v : UnitState) → IsWellFormed u → IsWayFor (unit_of registry copy) h q r (unit_of registry way) → b ≡ false → IsFollowed (unit_of registry way) h q r b v
-      → IsFollowedShared u h q r b (record { registry = v.registry; pending = table_pairs table })
+      → IsFollowedShared (λ x y. Step x h q r y) u h b (record { registry = v.registry; pending = table_pairs table })
   stays h q r false v formed is so step =
       let none = not_followed_shared u (unit_of registry way) h q r v formed (from_here h q r is) step in
       (ap (λ (x : UnitState). record u { registry = x.registry }) step.0, none.1)

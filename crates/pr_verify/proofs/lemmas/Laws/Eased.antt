@@ -8,7 +8,7 @@ use Rattle.std.proofs.Math.Bool.{and-true, or-false}
 use Rattle.pr_cdb.specs.Ranges.{FitsWhereRead}
 use Rattle.pr_cdb.specs.declared.wire.Request.{Request}
 use Rattle.pr_cdb.specs.declared.wire.Request.TheVariants.{Faulty}
-use Rattle.pr_registry.specs.Registrations.{key_of, State, IsWellFormed as IsWellFormedRegistry}
+use Rattle.pr_registry.specs.Registrations.{key_of, State}
 use Rattle.pr_unit.specs.Attentions.{power_on}
 use Rattle.pr_unit.specs.Laws.{IsQuiet, TakesEffect, request_looks}
 use Rattle.pr_unit.specs.Replies.{good, data_of, is_good}
@@ -29,6 +29,7 @@ use Rattle.pr_roles.proofs.lemmas.Permits.ServiceActions.{Serves, looks_or_serve
 use Rattle.pr_views.specs.Possibilities.{number_of}
 use Rattle.pr_interference.proofs.lemmas.Interference.PendingStates.{quiet_like, formed_silenced, like_silenced, none_silenced}
 use Rattle.pr_interference.specs.Interference.{declares_resets}
+use Rattle.pr_verify.proofs.lemmas.Laws.EarlyAnswers.{eased_early}
 
 pub eased_start : (s : Scenario) (u w : UnitState) (h : ℕ) → IsAllowedStart s u → IsQuiet u h w → IsAllowedStart s w
 eased_start s u w h allowed less = record {
@@ -51,8 +52,12 @@ eased_answer s h u c r v w formed a less = at a.how a.declared a.answer
     at : (k : How) → IsTrue (is_among (refusals_of s h) k) → Answers k u h (Plain c) r v → IsAnsweredFromLess s h u c r w
     at how.Plain declared step =
         let x = eased_steps u h (Plain c) r v w formed step less in
-        record { from = x.from; less = x.less; answer = record { how = how.Plain; declared = declared; answer = x.step } }
-    at k declared refused = record { from = w; less = subst (λ x. IsQuiet x h w) refused.1 less; answer = record { how = k; declared = declared; answer = (refused.0, refl) } }
+        record { from = x.from; less = x.less; answer = record { how = how.Plain; declared = declared; answer = x.answer } }
+    at how.Early declared early =
+        let x = eased_early u h (Plain c) r v w formed early less in
+        record { from = x.from; less = x.less; answer = record { how = how.Early; declared = declared; answer = x.answer } }
+    at how.Busy declared refused = record { from = w; less = subst (λ x. IsQuiet x h w) refused.1 less; answer = record { how = how.Busy; declared = declared; answer = (refused.0, refl) } }
+    at how.Full declared refused = record { from = w; less = subst (λ x. IsQuiet x h w) refused.1 less; answer = record { how = how.Full; declared = declared; answer = (refused.0, refl) } }
 
 -- ---- a state with less
 

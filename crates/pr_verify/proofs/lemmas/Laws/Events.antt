@@ -1,11 +1,12 @@
 -- What every event keeps: of what a script has still to do, its invariant is true, by the history and the unit.
-use Rattle.pr_verify.proofs.Common.{◌≡◌, ℕ, ◌<◌, ◌≤◌, true, false, ◌≢◌, ◌⊎◌, List, [], ◌∷◌, length, IsTrue, ◌==◌, Some, None, Option, sym, refl, ap, ◌∙◌, subst, inl, inr, arith, false≢true, eqb_tells, none-some, Command, Reply, Plain, UnitState, Stmts, Configuration, Task, Scripted, role, task, Scenario, IsAllowedStart, World, control, Host, world_from, How, IsDone, OnScripted}
+use Rattle.pr_verify.proofs.Common.{◌≡◌, ℕ, ◌<◌, ◌≤◌, true, false, ◌≢◌, ◌⊎◌, List, [], ◌∷◌, ◌++◌, length, IsTrue, ◌==◌, Some, None, Option, sym, refl, ap, ◌∙◌, subst, inl, inr, arith, false≢true, eqb_tells, none-some, Command, Reply, Plain, UnitState, Stmts, Configuration, Task, Scripted, role, task, Scenario, IsAllowedStart, World, control, Host, world_from, How, OnScripted}
 use Rattle.pr_cdb.specs.declared.wire.Wire.{Wire}
 use Rattle.pr_cdb.specs.Ranges.{FitsWhereRead}
 use Rattle.pr_cdb.specs.Spelling.{spelling}
 use Rattle.pr_cdb.proofs.lemmas.FieldRanges.{reads_fit}
 use Rattle.pr_script.specs.Scripts.{ready, first_configuration}
 use Rattle.pr_roles.specs.declared.item.Item.{Item}
+use Rattle.pr_roles.specs.declared.item.Item.TheVariants.{Sent}
 use Rattle.pr_roles.specs.Scenarios.{Planned}
 use Rattle.pr_roles.specs.Worlds.{Going, Free, Event, Guest, UnitReset, Fetched, HostSends, GuestSends, IsReset, IsFetched, Happens, Run, after_reset, after_fetch, control_after, going_or_trapped, is_guest_task, commands_by, standing_of, entry_of, may_reset, after}
 use Rattle.pr_roles.specs.Permits.{is_permitted}
@@ -15,7 +16,7 @@ use Rattle.pr_unit.specs.UnitStates.{is_pending}
 use Rattle.pr_roles.proofs.lemmas.Worlds.Controls.{there, at_start as begins, nobody_at_start, control_other, control_own}
 use Rattle.pr_roles.proofs.lemmas.Worlds.Counts.{sent_other, sent_own, sent_reset}
 use Rattle.pr_verify.proofs.lemmas.Laws.HostInvariants.{IsTurn, IsTaken, IsInvariant, HaveInvariants}
-use Rattle.pr_verify.proofs.lemmas.Outlines.UnnoticedCommands.{noticed}
+use Rattle.pr_verify.proofs.lemmas.Outlines.UnnoticedCommands.{IsNoticed, noticed}
 
 -- ---- what is kept
 
@@ -63,18 +64,24 @@ kept_at_start s Holds u have allowed h = at (task s h) refl
 -- ---- after a command
 
 others_kept : (s : Scenario) (Holds : ℕ → Configuration → List Item → UnitState → Type 0) (g : ℕ) (w : World) (line : ℕ) (wire : Wire) (r : Reply) (u : UnitState) (h : ℕ) → g < length s.nexuses
-    → (u ≡ w.unit) ⊎ IsDone (role s g) g w.unit u → h ≢ g → (t : Option Task) → IsKeptBy t s Holds w h → IsKeptBy t s Holds (after w g line wire r u) h
+    → IsNoticed (role s g) g w.unit u → h ≢ g → (t : Option Task) → IsKeptBy t s Holds w h → IsKeptBy t s Holds (after w g line wire r u) h
 others_kept s Holds g w line wire r u h there unit other (Some (Scripted script budget)) course = record {
   invariant = course.invariant;
   rest = course.rest;
   going = control_other w g line wire r u h other ∙ course.going;
-  holds = course.invariant.others course.rest w.history w.unit (entry_of g wire r) u course.holds (λ same. other (sym same)) there unit;
+  holds = holds_after unit;
   within = subst (λ n. n ≤ budget) (sym (sent_other w.history (entry_of g wire r) h other)) course.within;
 }
+  where
+    holds_after : IsNoticed (role s g) g w.unit u → Holds h course.rest (w.history ++ Sent (entry_of g wire r) ∷ []) u
+    holds_after (inl by_others) = course.invariant.others course.rest w.history w.unit (entry_of g wire r) u course.holds (λ same. other (sym same)) there by_others
+    holds_after (inr told) =
+        course.invariant.others course.rest w.history u (entry_of g wire r) u
+        (subst (Holds h course.rest w.history) (sym told.after) (course.invariant.fetched course.rest w.history w.unit g told.code course.holds told.pending)) (λ same. other (sym same)) there (inl refl)
 others_kept s Holds g w line wire r u h there unit other _ free = control_other w g line wire r u h other ∙ free
 
 all_kept : (s : Scenario) (Holds : ℕ → Configuration → List Item → UnitState → Type 0) (g : ℕ) (w : World) (line : ℕ) (wire : Wire) (r : Reply) (u : UnitState) → g < length s.nexuses
-    → (u ≡ w.unit) ⊎ IsDone (role s g) g w.unit u → IsKept s Holds w → IsKeptBy (task s g) s Holds (after w g line wire r u) g → IsKept s Holds (after w g line wire r u)
+    → IsNoticed (role s g) g w.unit u → IsKept s Holds w → IsKeptBy (task s g) s Holds (after w g line wire r u) g → IsKept s Holds (after w g line wire r u)
 all_kept s Holds g w line wire r u there unit kept own h = at (eqb_tells h g)
   where
     at : (((h == g) ≡ true) × (h ≡ g)) ⊎ (((h == g) ≡ false) × (h ≢ g)) → IsKeptBy (task s h) s Holds (after w g line wire r u) h

@@ -41,8 +41,8 @@ pub record IsTaken (s : Scenario) (h budget : ℕ) (Holds : Configuration → Li
   pub role : is_good r ≡ true → IsTrue (command_permitted (role s h) u.registry h c)
   pub holds : Holds rest (history ++ Sent (entry_of h (spelling c) r) ∷ []) v
 
--- A reset comes at most as often as the scenario has it. Of another's command only this is known: to the host it is one that
--- ends GOOD and that the other's role permits, or none. Any attention may be fetched: no script hears of that.
+-- A reset comes at most as often as the scenario has it. Any attention may be fetched: no script hears of that. Of another's
+-- command only this is known: to the host it is one that ends GOOD and that the other's role permits, or none, maybe after a fetch.
 pub record IsInvariant (s : Scenario) (h : ℕ) (script : Stmts) (budget : ℕ) (Holds : Configuration → List Item → UnitState → Type 0) : Type 0 where
   pub start : (u : UnitState) → IsAllowedStart s u → Holds (first_configuration script) [] u
   pub fields : (l : Configuration) (history : List Item) (u : UnitState) (line : ℕ) (c : Command) → Holds l history u → standing_of_items l ≡ Some (ready line c) → Fits c

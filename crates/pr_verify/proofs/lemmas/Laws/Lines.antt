@@ -1,7 +1,8 @@
 -- What is said of each line of a script, by a view or by anything else, is an invariant of its host, where it is true of what sound
 -- and fitting outlines ask. Outlines are the case of one view a line.
-use Rattle.pr_verify.proofs.Common.{◌≡◌, ℕ, ◌+◌, ◌<◌, ◌≤◌, true, ◌≢◌, ◌⊎◌, List, [], ◌∷◌, length, IsTrue, nat_lt, ◌==◌, Some, None, Contains, Option, sym, refl, ap, ◌∙◌, subst, inl, inr, arith, false≢true, Command, Reply, Plain, Step, UnitState, cost_of_all, Stmts, Configuration, Answers, Answered, refusals_of, command_permitted, role, Scenario, IsAllowedStart, How, IsDone, Becomes, by_another, by_reset, HasOutline, SendsFit, Place, places_of, first_lines, follows}
+use Rattle.pr_verify.proofs.Common.{option_map_or, ltb-true, ◌≡◌, ℕ, ◌+◌, ◌<◌, ◌≤◌, true, ◌≢◌, ◌⊎◌, List, [], ◌∷◌, length, IsTrue, nat_lt, ◌==◌, Some, None, Contains, Option, sym, refl, ap, ◌∙◌, subst, inl, inr, arith, false≢true, Command, Reply, Plain, Step, UnitState, cost_of_all, Stmts, Configuration, Answers, Answered, refusals_of, command_permitted, role, Scenario, IsAllowedStart, How, IsDone, Becomes, by_another, by_reset, HasOutline, SendsFit, Place, places_of, first_lines, follows}
 use Rattle.std.specs.Prelude.{IsSome, not}
+use Rattle.std.proofs.lemmas.Bool.{or_cases}
 use Rattle.std.proofs.lemmas.Bool.Decides.{nat_tests}
 use Rattle.pr_cdb.specs.Ranges.{Fits}
 use Rattle.pr_cdb.specs.Spelling.{spelling}
@@ -9,14 +10,16 @@ use Rattle.pr_unit.specs.UnitStates.{is_pending, after_report, reset}
 use Rattle.pr_unit.specs.Replies.{is_good}
 use Rattle.pr_roles.specs.declared.how.How.TheVariants as how
 use Rattle.pr_roles.specs.declared.item.Item.{Item}
-use Rattle.pr_roles.specs.Answers.{refusals_by, most_refusals, may_come}
+use Rattle.pr_roles.specs.Answers.{most_of, refusals_by, most_refusals, may_come}
 use Rattle.pr_roles.specs.DeclaredRefusals.{is_among}
+use Rattle.pr_roles.specs.Scenarios.{Nexus, nexus}
 use Rattle.pr_roles.specs.Worlds.{commands_by, entry_of, resets_in}
 use Rattle.pr_script.specs.Takes.{take}
 use Rattle.pr_script.specs.Costs.{commands}
 use Rattle.pr_script.proofs.lemmas.Costs.Budgets.{cost_bounds_sends, IsWithinCost, within_cost_taken}
 use Rattle.pr_roles.proofs.lemmas.Worlds.Counts.{sent_other, sent_own, sent_reset}
 use Rattle.pr_verify.proofs.lemmas.Laws.HostInvariants.{IsTurn, IsTaken, IsInvariant}
+use Rattle.pr_verify.proofs.lemmas.Laws.EarlyAnswers.{early_bad}
 use Rattle.pr_verify.proofs.lemmas.Laws.Eased.{IsShownEased, start_shown, own_shown, others_shown, fetched_shown, arms_eased, role_eased}
 use Rattle.pr_verify.proofs.lemmas.Places.Successors.{Leads, leads_begun}
 use Rattle.pr_verify.proofs.lemmas.Places.Replies.{LeadsOn, IsReadyAt, ready_at}
@@ -51,7 +54,17 @@ some_left n m less = grind (arith, nat_tests)
 -- what may come is declared
 pub may_be : (s : Scenario) (es : List Item) (h : ℕ) (k : How) → IsTrue (may_come s es h k) → IsTrue (is_among (refusals_of s h) k)
 may_be s es h how.Plain room = refl
-may_be s es h k room = some_left (refusals_by es h k) (most_refusals s h k) room
+may_be s es h how.Early room = at (or_cases s.early (nat_lt (refusals_by es h how.Early) (most_refusals s h how.Early)) room)
+  where
+    none_declared : (o : Option Nexus) → option_map_or (most_of how.Early) o 0 ≡ 0
+    none_declared None = refl
+    none_declared (Some n) = refl
+
+    at : (s.early ≡ true) ⊎ (nat_lt (refusals_by es h how.Early) (most_refusals s h how.Early) ≡ true) → s.early ≡ true
+    at (inl early) = early
+    at (inr less) = absurd (omega (arith, none_declared (nexus s h), ltb-true (refusals_by es h how.Early) (most_refusals s h how.Early) less))
+may_be s es h how.Busy room = some_left (refusals_by es h how.Busy) (most_refusals s h how.Busy) room
+may_be s es h how.Full room = some_left (refusals_by es h how.Full) (most_refusals s h how.Full) room
 
 module _ (s : Scenario) (h : ℕ) (script : Stmts) (budget : ℕ) (Shown : ℕ → UnitState → Type 0) (sound : IsSoundBy s h script Shown) (fitting : IsFittingBy s h script budget Shown) where
   record IsOwnStep (p : Place) (u : UnitState) (r : Reply) (v : UnitState) : Type 0 where
@@ -86,7 +99,9 @@ module _ (s : Scenario) (h : ℕ) (script : Stmts) (budget : ℕ) (Shown : ℕ �
     where
       at : (k : How) → Answers k u h (Plain p.command) r v → IsTrue (command_permitted (role s h) u.registry h c)
       at how.Plain step = subst (λ d. IsTrue (command_permitted (role s h) u.registry h d)) is (fitting.role p u r v own.listed own.shown step good)
-      at _ refused = absurd (false≢true (ap is_good (sym refused.0) ∙ good))
+      at how.Early early = absurd (false≢true (sym (early_bad u h p.command r v early) ∙ good))
+      at how.Busy refused = absurd (false≢true (ap is_good (sym refused.0) ∙ good))
+      at how.Full refused = absurd (false≢true (ap is_good (sym refused.0) ∙ good))
 
   -- one command more is within the budget
   within_budget : (n : ℕ) (l : Configuration) (r : Reply) (at : IsWithinCost n l (cost_of_all script)) → commands l ≡ 1 → n + 1 ≤ budget

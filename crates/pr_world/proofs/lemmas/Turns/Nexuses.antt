@@ -113,6 +113,7 @@ done_rests wanted s x y h guest turn = nothing_next s x h (how_now s x.world.his
 -- just what the unit would answer is passed over
 held_back : (so : How) (clauses : List Clause) (u : UnitState) (h : ℕ) (c : Command) → is_passed_over so clauses u h c ≡ true → is_held_back clauses u h c ≡ true
 held_back how.Plain clauses u h c is = is
+held_back how.Early clauses u h c is = is
 held_back _ clauses u h c is = absurd (false≢true is)
 
 passed_by : (so : How) (s : Scenario) (x y : Schedule) (h : ℕ) → GuestIsReady so s x h true → TurnAs s x h so y → PassesOver s x h y

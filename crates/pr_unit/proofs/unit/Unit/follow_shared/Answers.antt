@@ -1,5 +1,9 @@
-use Rattle.pr_unit.proofs.Common.{◌<◌, sym, subst, UnitState, unit_of}
+use Rattle.pr_unit.proofs.Common.{◌<◌, sym, ◌∙◌, subst, Request, Step, UnitState, unit_of}
 use Rattle.pr_unit.proofs.lemmas.Steps.SharedSteps.{well_formed-followed_shared}
+use Rattle.std.specs.Prelude.{Result}
+use Rattle.pr_cdb.specs.declared.wire.Bad.{Bad}
+use Rattle.pr_cdb.specs.Requests.{request_of, request_of_wire}
+use Rattle.pr_unit.specs.SharedPaths.{FollowsShared}
 use Rattle.pr_unit.proofs.unit.Unit.follow_shared.Goals as goal
 
 pub invariant_of-self : goal.invariant_of-self
@@ -8,3 +12,9 @@ invariant_of-self c =
     let v = unit_of c.follow_shared.new.registry c.follow_shared.new.pendings in
     let there : c.args.host < u.registry.hosts = subst (λ (s : UnitState). c.args.host < s.registry.hosts) (sym c.self.view_is) c.requires in
     well_formed-followed_shared u c.args.host c.in-Ok.request c.args.reply.now c.follow_shared.result v c.self.invariant there c.in-Ok.ensures.in_range c.follow_shared.ensures
+
+pub returns-in-Ok : goal.returns-in-Ok
+returns-in-Ok c =
+    let v = unit_of c.follow_shared.new.registry c.follow_shared.new.pendings in
+    let at = λ (o : Result Request Bad) (u : UnitState). FollowsShared (λ q x y. Step x c.args.host q c.args.reply.now y) u c.args.host o c.follow_shared.result v in
+    subst (at (request_of_wire c.args.wire.now)) c.self.view_is (subst (λ o. at o (unit_of c.self.inside.registry c.self.inside.pending)) (c.in-Ok.ensures.value ∙ (λ i. request_of (c.deref.ensures.0 i) (c.deref-2.ensures.0 i))) c.follow_shared.ensures)
