@@ -8,8 +8,8 @@ ghost use Rattle.pr_roles.specs.Scenarios.{nexus_of};
 use crate::parts::Nexus;
 use pr_cdb::{Reply, Status};
 
-/// How a command is answered: by the unit, in the order of SAM-5 or reporting before it looks at the reservation, or by one of the two
-/// refusals in which it has no part (SAM-5, 'Status').
+/// How a command is answered: by the unit, in the order of SAM-5 or reporting before it looks at the reservation, or by one of the
+/// two refusals in which it has no part (SAM-5, 'Status').
 #[derive(Clone, Copy, Debug, PartialEq, Eq)]
 pub enum How {
     /// By the unit.
@@ -92,7 +92,8 @@ impl Nexus {
         }
     }
 
-    /// Which of them it may meet: those that are declared for it at all; and whether the unit may report early, as the scenario has it.
+    /// Which of them it may meet: those that are declared for it at all; and whether the unit may report early, as the scenario
+    /// has it.
     pub fn refusals(&self, early: bool) -> Refusals
         ensures busy { result.busy ≡ not (self.now.busy == 0) }
         ensures full { result.full ≡ not (self.now.full == 0) }

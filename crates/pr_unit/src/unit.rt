@@ -161,8 +161,8 @@ impl Unit {
         Ok(answer(&mut self.registry, &mut self.pending, host, request))
     }
 
-    /// The same, by a unit that reports an attention before it looks at the reservation: the lowest of those that are pending, where
-    /// the command conflicts and no power on is among them. Any other command it answers as always.
+    /// The same, by a unit that reports an attention before it looks at the reservation: the lowest of those that are pending,
+    /// where the command conflicts and no power on is among them. Any other command it answers as always.
     pub fn execute_early(&mut self, host: u8, wire: &Wire) -> Result<Reply, Bad>
         requires { host < self.old.registry.hosts }
         ensures { ExecutesEarly self.old host (request_of_wire wire.now) result self.new }
@@ -194,8 +194,8 @@ impl Unit {
         }
     }
 
-    /// Whether the unit may report just so before it looks at the reservation, with which the command of the host conflicts. Where it
-    /// may, it is in the state after that report; else nothing changes.
+    /// Whether the unit may report just so before it looks at the reservation, with which the command of the host conflicts. Where
+    /// it may, it is in the state after that report; else nothing changes.
     pub fn follow_early(&mut self, host: u8, wire: &Wire, reply: &Reply) -> bool
         requires { host < self.old.registry.hosts }
         ensures { FollowsEarly self.old host (request_of_wire wire.now) reply.now result self.new }
