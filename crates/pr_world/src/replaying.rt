@@ -56,8 +56,8 @@ pub fn replay(alloc: Global, scenario: &Scenario, steps: &[u8]) -> Result<Replay
 
 /// The same, where each turn's step also says how the command is answered: by the unit, by the unit with a report that comes before
 /// it looks at the reservation, or by a refusal. Where the scenario doesn't have that, or has no such refusal left for the nexus,
-/// the unit answers as always; and so it does where it may not report early. A guest's command that is refused is used up, and never
-/// passed over.
+/// the unit answers as always; and so it does where it may not report early. A guest's command that is refused is used up, and
+/// never passed over.
 ///
 /// A step may also be a reset of the unit. Where the scenario has none left, it is passed over.
 pub fn replay_as(alloc: Global, scenario: &Scenario, steps: &[Step]) -> Result<Replayed, AllocError>
