@@ -39,7 +39,7 @@ pub enum Call<'a> {
         asked: &'a [&'a str],
     },
 
-    /// The trace of these turns, each named by its nexus, or in version 2 another step.
+    /// The trace of these turns, each named by its nexus, or from version 2 on another step.
     Replay {
         path: &'a str,
         steps: &'a [&'a str],

@@ -4,7 +4,7 @@ use clap::{Arg, ArgAction, ArgMatches, Command, Error};
 use std::alloc::{AllocError, Global};
 
 // What the program is, which language it reads, and the kit for which its proofs are.
-const VERSION: &str = "0.1.0 (language fence 2, for rattle-kit-13f)";
+const VERSION: &str = "0.1.0 (language fence 3, for rattle-kit-13f)";
 
 const STATUSES: &str =
     "Exit status: 0 done, accepted, safe or legal, or no run ends or comes to be as asked; 1 a script is refused or trapped, a witness is found, a run ends or comes to be as asked, a bound ended a search, or a trace is illegal; 2 the command line is at fault, or help or version was asked for; \
@@ -196,7 +196,7 @@ fn never<'a>(alloc: Global) -> Result<Command<'a>, AllocError> {
 fn replay<'a>(alloc: Global) -> Result<Command<'a>, AllocError> {
     let steps = Arg::new(alloc, "STEP")
         .help(
-            "The name of the host or guest whose turn is next, one word for each turn; in version 2 also NAME:busy, NAME:full and :reset",
+            "The name of the host or guest whose turn is next, one word for each turn; from version 2 on also NAME:busy, NAME:full and :reset, from version 3 on NAME:early",
         )
         .action(ArgAction::Append)
         .num_args(1..)

@@ -208,10 +208,10 @@ fn history_of(
     above: u32,
     items: &[u8],
 ) -> Result<Vec<Item>, Fault> {
-    let first: &[u8] = if scenario.parts().version == 1 {
-        b"fence-trace 1\n"
-    } else {
-        b"fence-trace 2\n"
+    let first: &[u8] = match scenario.parts().version {
+        1 => b"fence-trace 1\n",
+        2 => b"fence-trace 2\n",
+        _ => b"fence-trace 3\n",
     };
     let mut text = Vec::new(alloc);
     text.extend_from_slice(first)?;

@@ -18,26 +18,31 @@ texts_of words = map (λ w. w.now) words
 abbrev pub front_of : List ℕ → List ℕ → ℕ
 front_of ending word = length word - length ending
 
--- from version 2 on the word may have this ending, and has it
-abbrev pub has_ending : ℕ → List ℕ → List ℕ → Bool
-has_ending version ending word = nat_le 2 version && bytes_eq (drop (front_of ending word) word) ending
+-- from the first of these versions on the word may have this ending, and has it
+abbrev pub has_ending : ℕ → ℕ → List ℕ → List ℕ → Bool
+has_ending since version ending word = nat_le since version && bytes_eq (drop (front_of ending word) word) ending
 
 -- what is asked for of the nexus with this name
 abbrev pub asked_of : List (List ℕ) → List ℕ → How → Option Step
 asked_of names name how = option_map (λ host. Of host how) (number_of names name)
+
+-- what is asked for of the nexus that is named before this ending
+abbrev pub asked_before : List (List ℕ) → List ℕ → List ℕ → How → Option Step
+asked_before names ending word how = asked_of names (take (front_of ending word) word) how
 
 -- from version 2 on a word may ask for a reset of the unit
 abbrev pub is_reset_step : ℕ → List ℕ → Bool
 is_reset_step version word = nat_le 2 version && bytes_eq word (codes ":reset")
 
 -- `:reset` for a reset; `a` for a command of a that the unit answers, `a:busy` for one that BUSY answers, `a:full` for one that
--- TASK SET FULL does
+-- TASK SET FULL does, and `a:early` for one to which the unit reports an attention before it looks at the reservation
 unfoldable pub step_in : ℕ → List (List ℕ) → List ℕ → Option Step
 step_in version names word =
     if is_reset_step version word then Some Reset else (
-    if has_ending version (codes ":busy") word then asked_of names (take (front_of (codes ":busy") word) word) how.Busy else (
-    if has_ending version (codes ":full") word then asked_of names (take (front_of (codes ":full") word) word) how.Full else
-    asked_of names word how.Plain))
+    if has_ending 2 version (codes ":busy") word then asked_before names (codes ":busy") word how.Busy else (
+    if has_ending 2 version (codes ":full") word then asked_before names (codes ":full") word how.Full else (
+    if has_ending 3 version (codes ":early") word then asked_before names (codes ":early") word how.Early else
+    asked_of names word how.Plain)))
 
 -- all of them
 abbrev pub steps_of : ℕ → List (List ℕ) → List (List ℕ) → Option (List Step)

@@ -11,8 +11,8 @@ use pr_roles::{How, Nexus, Step};
 use pr_trace::number_of;
 use std::alloc::{AllocError, Global};
 
-/// What the words ask for: the turn of a nexus, `a`, and from version 2 on `a:busy`, `a:full` and a reset, `:reset`. There are
-/// none where one of the words is no step.
+/// What the words ask for: the turn of a nexus, `a`, from version 2 on `a:busy`, `a:full` and a reset, `:reset`, and from version 3
+/// on `a:early`. There are none where one of the words is no step.
 pub fn steps_of(
     alloc: Global,
     words: &[&str],
@@ -44,11 +44,14 @@ fn step_in(version: u8, nexuses: &[Nexus], word: &[u8]) -> Option<Step>
     if is_reset_step(version, word) {
         return Some(Step::Reset);
     }
-    if has_ending(version, ":busy", word) {
+    if has_ending(2, version, ":busy", word) {
         return asked_of(nexuses, without(":busy", word), How::Busy);
     }
-    if has_ending(version, ":full", word) {
+    if has_ending(2, version, ":full", word) {
         return asked_of(nexuses, without(":full", word), How::Full);
+    }
+    if has_ending(3, version, ":early", word) {
+        return asked_of(nexuses, without(":early", word), How::Early);
     }
     asked_of(nexuses, word, How::Plain)
 }
@@ -69,11 +72,11 @@ fn is_reset_step(version: u8, word: &[u8]) -> bool
     version >= 2 && word == ":reset".as_bytes()
 }
 
-// From version 2 on the word may have this ending, and has it.
-fn has_ending(version: u8, ending: &str, word: &[u8]) -> bool
-    ensures { result ≡ has_ending version ending.now word.now }
+// From the first of these versions on the word may have this ending, and has it.
+fn has_ending(since: u8, version: u8, ending: &str, word: &[u8]) -> bool
+    ensures { result ≡ has_ending since version ending.now word.now }
 {
-    version >= 2 && &word[front_of(ending, word)..] == ending.as_bytes()
+    version >= since && &word[front_of(ending, word)..] == ending.as_bytes()
 }
 
 // What stands before this ending.

@@ -7,7 +7,7 @@ use crate::refused_send::{RefusedSend, table_of};
 use crate::senders::{SentBy, SentItem, sent_by};
 use crate::sheet::{Sheet, command_number};
 use crate::source::{line_of, line_with};
-use crate::together::CONFLICTS_FIRST;
+use crate::together::{Alone, put_order, who_is_alone};
 use crate::unseen::put_unseen;
 use pr_audit::End;
 use pr_output::{Token, WriteFault};
@@ -64,16 +64,26 @@ fn reaches_unarmed(broken: Broken, send: Option<RefusedSend<'_>>) -> bool {
     }
 }
 
+// What it rests on that a scenario is safe, where each host is alone on its path.
+const UNSEEN_WHERE_SAFE: &[u8] =
+    b"It rests on what `accepted` rests on, and on this besides: nothing but a script looks at the disk by its path. On Linux multipathd and the kernel do, and take unit attentions away (docs/VERDICTS.md).\n";
+
+// And where some hosts are.
+const UNSEEN_OF_SOME_WHERE_SAFE: &[u8] =
+    b"It rests on what `accepted` rests on, and on this besides: nothing but its script looks at the disk by the path of a host that is said to be alone.\n";
+
 // That nothing goes wrong with these scripts and roles, what that rests on, and how a check lets it through.
 fn put_safe<W: Write>(sheet: &mut Sheet<'_, W>, worlds: usize) -> Result<(), WriteFault> {
     sheet.say(
         b"\nYou can leave it so: this is safe all the same. All {} states of disk and scripts that can come up were looked at, and nothing goes wrong in any of them. That is proved, but for their number.\n",
         &[Token::Number(worlds as u64)],
     )?;
-    sheet.put(
-        b"It rests on what `accepted` rests on, and on this besides: nothing but a script looks at the disk by its path. On Linux multipathd and the kernel do, and take unit attentions away (docs/VERDICTS.md).\n",
-    )?;
-    sheet.put(CONFLICTS_FIRST)?;
+    sheet.put(match who_is_alone(sheet.nexuses) {
+        Alone::Each => UNSEEN_WHERE_SAFE,
+        Alone::Some => UNSEEN_OF_SOME_WHERE_SAFE,
+        Alone::Nobody => b"It rests on what `accepted` rests on.\n",
+    })?;
+    put_order(sheet)?;
     sheet.put(
         b"In CI call `fence witness FILE` in place of `fence check FILE`: its status is 0 where the scenario is accepted, and where it is safe.\n",
     )

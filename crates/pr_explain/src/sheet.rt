@@ -13,6 +13,8 @@ pub(crate) struct Sheet<'a, W: Write> {
     pub writer: Wrapping<'a, W>,
     pub lines: &'a [&'a [u8]],
     pub nexuses: &'a [Nexus],
+    /// Whether the disk may report an attention before it looks at the reservation.
+    pub is_early: bool,
 }
 
 impl<'a, W: Write> Sheet<'a, W> {
@@ -22,6 +24,7 @@ impl<'a, W: Write> Sheet<'a, W> {
             writer: Wrapping::new(writer),
             lines,
             nexuses: &scenario.parts().nexuses,
+            is_early: scenario.parts().early,
         }
     }
 

@@ -3,15 +3,20 @@
 use crate::sheet::Sheet;
 use pr_audit::End;
 use pr_output::{Token, WriteFault};
+use pr_roles::{Nexus, Task};
 use pr_witness::{Ends, Together};
 use std::io::Write;
 
-/// What the answers of a search rest on.
+/// What the answers of a search rest on, where each host is alone on its path.
 const UNSEEN: &[u8] =
     b"That holds where nothing but a script looks at the disk by its path (docs/VERDICTS.md): multipathd and the kernel do.\n";
 
-/// What they rest on besides.
-pub(crate) const CONFLICTS_FIRST: &[u8] =
+/// What they rest on where some hosts are.
+const UNSEEN_OF_SOME: &[u8] =
+    b"That holds where nothing but its script looks at the disk by the path of a host that is said to be alone.\n";
+
+/// What they rest on besides, unless the disk may report an attention first.
+const CONFLICTS_FIRST: &[u8] =
     b"And it holds where the disk answers a conflict before an attention (docs/TARGETS.md): LIO does not.\n";
 
 /// More of them nobody reads.
@@ -49,8 +54,44 @@ More states can come up than were looked at here, so it is not told which words 
 
 /// Writes what the answers of a search rest on, each of which can be broken by a real system.
 pub(crate) fn put_premises<W: Write>(sheet: &mut Sheet<'_, W>) -> Result<(), WriteFault> {
-    sheet.put(UNSEEN)?;
+    match who_is_alone(sheet.nexuses) {
+        Alone::Each => sheet.put(UNSEEN)?,
+        Alone::Some => sheet.put(UNSEEN_OF_SOME)?,
+        Alone::Nobody => {}
+    }
+    put_order(sheet)
+}
+
+/// Writes that they rest on the order in which the disk looks, where they do.
+pub(crate) fn put_order<W: Write>(sheet: &mut Sheet<'_, W>) -> Result<(), WriteFault> {
+    if sheet.is_early {
+        return Ok(());
+    }
     sheet.put(CONFLICTS_FIRST)
+}
+
+/// Which hosts are alone on their paths.
+pub(crate) enum Alone {
+    Each,
+    Some,
+    Nobody,
+}
+
+/// Which of these hosts are alone on their paths.
+pub(crate) fn who_is_alone(nexuses: &[Nexus]) -> Alone {
+    let mut is_one_alone = false;
+    let mut is_one_shared = false;
+    for nexus in nexuses {
+        if let Task::Scripted { .. } = nexus.task {
+            is_one_alone = is_one_alone || !nexus.shared;
+            is_one_shared = is_one_shared || nexus.shared;
+        }
+    }
+    match (is_one_alone, is_one_shared) {
+        (true, true) => Alone::Some,
+        (false, true) => Alone::Nobody,
+        (_, false) => Alone::Each,
+    }
 }
 
 // The hosts and their words. (A script of a scenario that is accepted is never trapped.)

@@ -5,7 +5,7 @@ use Rattle.pr_lines.specs.declared.item.ScenarioLine.{ScenarioLine as ItemValue}
 use Rattle.pr_lines.specs.declared.item.ScenarioLine.TheVariants as value
 use Rattle.pr_lines.specs.declared.item.StartReservation.{StartReservation as WantedValue}
 use Rattle.pr_lines.specs.declared.item.StartReservation.TheVariants as wanted
-use Rattle.pr_lines.specs.ScenarioLines.{StartReservation, nobody, single, everybody, ScenarioLine, fence_line, keys_line, nexus_line, start_line, pending_line, refusals_line, reservation_line, generation_line, resets_line, role_line, script_line, plan_line, end_line, send_line, on_line, done_line, repeat_line, break_line, stop_line, command_line, declares, states}
+use Rattle.pr_lines.specs.ScenarioLines.{StartReservation, nobody, single, everybody, ScenarioLine, fence_line, keys_line, nexus_line, start_line, pending_line, refusals_line, reservation_line, generation_line, resets_line, alone_line, order_line, role_line, script_line, plan_line, end_line, send_line, on_line, done_line, repeat_line, break_line, stop_line, command_line, declares, states}
 
 abbrev pub wanted_seen : WantedValue → StartReservation
 wanted_seen wanted.Nobody = nobody
@@ -23,6 +23,8 @@ line_of_value (value.Refusals refusal name count) = declares (refusals_line refu
 line_of_value (value.Reservation xs) = declares (reservation_line (map wanted_seen xs.items))
 line_of_value (value.Generation n) = declares (generation_line n)
 line_of_value (value.Resets n) = declares (resets_line n)
+line_of_value (value.Alone names) = declares (alone_line (map (λ name. name.bytes) names.items))
+line_of_value value.Order = declares order_line
 line_of_value (value.Role name clause) = declares (role_line name.bytes clause)
 line_of_value (value.Script name budget) = declares (script_line name.bytes budget)
 line_of_value (value.Plan name) = declares (plan_line name.bytes)

@@ -26,7 +26,8 @@ pub data StartReservation : Type 0 where
   everybody : Kind → StartReservation
 
 -- A line outside scripts and plans, with the terms on it. A nexus is a guest where the flag says so, and a line of
--- refusals or of resets says how often one may come. A key, a count or a name need not be one that the text may have
+-- refusals or of resets says how often one may come. On the paths of some hosts nobody else sends, and the order is that of a disk
+-- which looks at the reservation before an attention. A key, a count or a name need not be one that the text may have
 -- there.
 pub data DeclaringLine : Type 0 where
   keys_line : List ℕ → DeclaringLine
@@ -37,6 +38,8 @@ pub data DeclaringLine : Type 0 where
   reservation_line : List StartReservation → DeclaringLine
   generation_line : ℕ → DeclaringLine
   resets_line : ℕ → DeclaringLine
+  alone_line : List (List ℕ) → DeclaringLine
+  order_line : DeclaringLine
   role_line : List ℕ → Clause → DeclaringLine
   script_line : List ℕ → ℕ → DeclaringLine
   plan_line : List ℕ → DeclaringLine
@@ -108,6 +111,10 @@ budget_in (w ∷ ws) = if bytes_eq w (codes "budget") then only_count ws else No
 abbrev pub parse_fence : List (List ℕ) → Option ScenarioLine
 parse_fence ws = only ws >>= λ word. option_map (λ version. fence_line version) (lookup (map (λ row. (row.0.now, row.1)) VERSIONS) word)
 
+-- the one order that a line says: a conflict comes before an attention
+abbrev pub parse_order : List (List ℕ) → Option ScenarioLine
+parse_order ws = only ws >>= λ word. if bytes_eq word (codes "conflict") then Some (declares order_line) else None
+
 -- what a line says of a name, and of what the words behind it are
 abbrev pub parse_of_name : {A : Type 0} → (List ℕ → A → ScenarioLine) → (List (List ℕ) → Option A) → List (List ℕ) → Option ScenarioLine
 parse_of_name says f ws = name_in ws >>= λ r. option_map (says r.0) (f r.1)
@@ -126,6 +133,8 @@ item_of word ws =
     if bytes_eq word (codes "reservation") then option_map (λ xs. declares (reservation_line xs)) (list_of start_reservation_of ws) else (
     if bytes_eq word (codes "generation") then option_map (λ n. declares (generation_line n)) (only ws >>= generation_of) else (
     if bytes_eq word (codes "resets") then option_map (λ n. declares (resets_line n)) (only_count ws) else (
+    if bytes_eq word (codes "alone") then option_map (λ names. declares (alone_line names)) (list_of name_of ws) else (
+    if bytes_eq word (codes "order") then parse_order ws else (
     if bytes_eq word (codes "role") then parse_of_name (λ name clause. declares (role_line name clause)) clause_of ws else (
     if bytes_eq word (codes "script") then parse_of_name (λ name budget. declares (script_line name budget)) budget_in ws else (
     if bytes_eq word (codes "plan") then option_map (λ name. declares (plan_line name)) (only_name ws) else (
@@ -136,4 +145,4 @@ item_of word ws =
     if bytes_eq word (codes "repeat") then option_map (λ n. states (repeat_line n)) (only_count ws) else (
     if bytes_eq word (codes "break") then if_alone (states break_line) ws else (
     if bytes_eq word (codes "stop") then option_map (λ word. states (stop_line word)) (only_name ws) else (
-    option_map (λ s. command_line s) (spelled_of word ws))))))))))))))))))))))
+    option_map (λ s. command_line s) (spelled_of word ws))))))))))))))))))))))))

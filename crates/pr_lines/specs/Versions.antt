@@ -2,7 +2,7 @@
 -- From which version of the language on there is a line.
 use Rattle.std.specs.Prelude.{ℕ}
 use Rattle.pr_script.specs.Versions.{since as test_since}
-use Rattle.pr_lines.specs.ScenarioLines.{DeclaringLine, StatementLine, ScenarioLine, fence_line, declares, states, keys_line, nexus_line, start_line, pending_line, refusals_line, reservation_line, generation_line, resets_line, role_line, script_line, plan_line, end_line, send_line, on_line, done_line, repeat_line, break_line, stop_line, command_line}
+use Rattle.pr_lines.specs.ScenarioLines.{DeclaringLine, StatementLine, ScenarioLine, fence_line, declares, states, keys_line, nexus_line, start_line, pending_line, refusals_line, reservation_line, generation_line, resets_line, alone_line, order_line, role_line, script_line, plan_line, end_line, send_line, on_line, done_line, repeat_line, break_line, stop_line, command_line}
 
 -- that of a line outside scripts and plans
 abbrev pub declaring_since : DeclaringLine → ℕ
@@ -14,6 +14,8 @@ declaring_since (refusals_line refusal name count) = 2
 declaring_since (reservation_line ws) = 1
 declaring_since (generation_line n) = 1
 declaring_since (resets_line n) = 2
+declaring_since (alone_line names) = 3
+declaring_since order_line = 3
 declaring_since (role_line name clause) = 1
 declaring_since (script_line name budget) = 1
 declaring_since (plan_line name) = 1

@@ -3,9 +3,9 @@
 ghost use Rattle.std.specs.Prelude.{◌≡◌, map, option_map, option_and_then, IfOk};
 ghost use Rattle.std.specs.Result.{result_ok};
 ghost use Rattle.pr_lines.specs.TextLines.{words, only};
-ghost use Rattle.pr_lines.specs.WordTerms.{key_of, generation_of, code_of};
+ghost use Rattle.pr_lines.specs.WordTerms.{key_of, name_of, generation_of, code_of};
 ghost use Rattle.pr_lines.specs.Clauses.{clause_of};
-ghost use Rattle.pr_lines.specs.ScenarioLines.{list_of, alternative_of, everybody_of, single_of, start_reservation_of, name_in, only_name, only_count, budget_in, parse_fence, parse_of_name, item_of, declares, keys_line, start_line, pending_line, refusals_line, reservation_line, role_line, script_line};
+ghost use Rattle.pr_lines.specs.ScenarioLines.{list_of, alternative_of, everybody_of, single_of, start_reservation_of, name_in, only_name, only_count, budget_in, parse_fence, parse_order, parse_of_name, item_of, declares, alone_line, keys_line, start_line, pending_line, refusals_line, reservation_line, role_line, script_line};
 ghost use Rattle.pr_lines.specs.inside.Keywords.{parse_plain, parse_after};
 ghost use Rattle.pr_lines.specs.LineValues.{wanted_seen, line_of_value};
 
@@ -71,6 +71,10 @@ pub enum ScenarioLine {
     Generation(u32),
     /// How often the unit may be reset during a run.
     Resets(u64),
+    /// Nobody else sends on the paths of the hosts with these names.
+    Alone(Vec<Word>),
+    /// The disk looks at the reservation before it reports an attention other than a power on.
+    Order,
     /// One clause more of the role of the nexus with this name.
     Role(Word, Clause),
     /// A script begins, of the host with this name, and with this budget of commands.
@@ -129,6 +133,7 @@ fn parse_after(
         Keyword::Start => parse_start(alloc, rest),
         Keyword::Pending => parse_pending(alloc, rest),
         Keyword::Reservation => parse_reservation(alloc, rest),
+        Keyword::Alone => parse_alone(alloc, rest),
         other => Ok(parse_plain(other, rest)),
     }
 }
@@ -146,6 +151,7 @@ fn parse_plain(keyword: Keyword, rest: &[u8]) -> Result<ScenarioLine, Misfit>
         Keyword::Full => parse_refusals(RefusalKind::Full, rest),
         Keyword::Generation => Ok(ScenarioLine::Generation(only_generation(rest)?)),
         Keyword::Resets => Ok(ScenarioLine::Resets(only_count(rest)?)),
+        Keyword::Order => parse_order(rest),
         Keyword::Role => parse_role(rest),
         Keyword::Script => parse_script(rest),
         Keyword::Plan => Ok(ScenarioLine::Plan(only_name(rest)?)),
@@ -156,9 +162,8 @@ fn parse_plain(keyword: Keyword, rest: &[u8]) -> Result<ScenarioLine, Misfit>
         Keyword::Repeat => Ok(ScenarioLine::Repeat(only_count(rest)?)),
         Keyword::Break => if_alone(ScenarioLine::Break, rest),
         Keyword::Stop => Ok(ScenarioLine::Stop(only_name(rest)?)),
-        Keyword::Keys | Keyword::Start | Keyword::Pending | Keyword::Reservation => {
-            Err(Misfit::missing(Wanted::End))
-        }
+        Keyword::Keys | Keyword::Start | Keyword::Pending | Keyword::Reservation | Keyword::Alone =>
+            Err(Misfit::missing(Wanted::End)),
     }
 }
 
@@ -169,6 +174,16 @@ fn parse_fence(line: &[u8]) -> Result<ScenarioLine, Misfit>
     let (word, rest) = word_in(line, Wanted::Version)?;
     let version = alone(lookup(&VERSIONS, word), word, rest, Wanted::Version)?;
     Ok(ScenarioLine::Fence(version))
+}
+
+// The one order that a line says: a conflict comes before an attention.
+#[tactic(auto, using(crate::proofs::lemmas::TextLines::Cuts::only_read))]
+fn parse_order(line: &[u8]) -> Result<ScenarioLine, Misfit>
+    ensures { option_map line_of_value (result_ok result) ≡ parse_order (words line.now) }
+{
+    let (word, rest) = word_in(line, Wanted::Order)?;
+    let order = is(word, "conflict").then_some(ScenarioLine::Order);
+    alone(order, word, rest, Wanted::Order)
 }
 
 fn parse_refusals(refusal: RefusalKind, rest: &[u8]) -> Result<ScenarioLine, Misfit>
@@ -301,6 +316,14 @@ fn parse_reservation(alloc: Global, rest: &[u8]) -> Result<Result<ScenarioLine, 
     Ok(wanted.map(ScenarioLine::Reservation))
 }
 
+fn parse_alone(alloc: Global, rest: &[u8]) -> Result<Result<ScenarioLine, Misfit>, AllocError>
+    ensures { IfOk result (λ item. option_map line_of_value (result_ok item)
+        ≡ option_map (λ names. declares (alone_line names)) (list_of name_of (words rest.now))) }
+{
+    let names = names_in(alloc, rest)?;
+    Ok(names.map(ScenarioLine::Alone))
+}
+
 #[tactic(auto, using(crate::proofs::lemmas::Chain::Lists::each_same))]
 fn keys_in(alloc: Global, line: &[u8]) -> Result<Result<Vec<u64>, Misfit>, AllocError>
     ensures { IfOk result (λ keys. option_map (λ v. v.items) (result_ok keys)
@@ -319,6 +342,26 @@ fn keys_in(alloc: Global, line: &[u8]) -> Result<Result<Vec<u64>, Misfit>, Alloc
         rest = others;
     }
     Ok(Ok(keys))
+}
+
+#[tactic(auto, using(crate::proofs::lemmas::Chain::Lists::each_same))]
+fn names_in(alloc: Global, line: &[u8]) -> Result<Result<Vec<Word>, Misfit>, AllocError>
+    ensures { IfOk result (λ names. option_map (λ v. map (λ name. name.bytes) v.items)
+        (result_ok names) ≡ list_of name_of (words line.now)) }
+{
+    if is_end(line) {
+        return Ok(Err(Misfit::missing(Wanted::Name)));
+    }
+    let mut names = Vec::new(alloc);
+    let mut rest = line;
+    while let Some((word, others)) = next_word(rest) {
+        let Some(name) = name_of(word) else {
+            return Ok(Err(Misfit::at(word, others, Wanted::Name)));
+        };
+        names.push(name)?;
+        rest = others;
+    }
+    Ok(Ok(names))
 }
 
 #[tactic(auto, using(crate::proofs::lemmas::Chain::Lists::each_same))]

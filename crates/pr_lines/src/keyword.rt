@@ -19,6 +19,8 @@ pub enum Keyword {
     Reservation,
     Generation,
     Resets,
+    Alone,
+    Order,
     Role,
     Script,
     Plan,
@@ -32,7 +34,7 @@ pub enum Keyword {
 }
 
 /// The words that lines begin with (docs/FORMATS.md, 'The lines of a scenario').
-pub const KEYWORDS: [(&[u8], Keyword); 21] = [
+pub const KEYWORDS: [(&[u8], Keyword); 23] = [
     (b"fence", Keyword::Fence),
     (b"keys", Keyword::Keys),
     (b"host", Keyword::Host),
@@ -44,6 +46,8 @@ pub const KEYWORDS: [(&[u8], Keyword); 21] = [
     (b"reservation", Keyword::Reservation),
     (b"generation", Keyword::Generation),
     (b"resets", Keyword::Resets),
+    (b"alone", Keyword::Alone),
+    (b"order", Keyword::Order),
     (b"role", Keyword::Role),
     (b"script", Keyword::Script),
     (b"plan", Keyword::Plan),

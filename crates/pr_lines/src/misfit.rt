@@ -30,6 +30,8 @@ pub enum Wanted {
     Reservation,
     /// The word `budget`.
     Budget,
+    /// The word `conflict`.
+    Order,
     /// What a clause permits.
     Action,
     /// The type of a reservation.

@@ -6,7 +6,7 @@ use pr_lines::{Keyword, Wanted};
 /// The form of the lines that begin so, for people.
 pub fn form_of(keyword: Keyword) -> &'static [u8] {
     match keyword {
-        Keyword::Fence => b"fence 1, or fence 2",
+        Keyword::Fence => b"fence 1, fence 2 or fence 3",
         Keyword::Keys => b"keys KEY ..",
         Keyword::Host => b"host NAME",
         Keyword::Guest => b"guest NAME",
@@ -18,6 +18,8 @@ pub fn form_of(keyword: Keyword) -> &'static [u8] {
             b"reservation ALT .., where each ALT is none, T:NAME, or T for the types 7 and 8",
         Keyword::Generation => b"generation H",
         Keyword::Resets => b"resets N",
+        Keyword::Alone => b"alone NAME ..",
+        Keyword::Order => b"order conflict",
         Keyword::Role => b"role NAME CLAUSE, or role NAME CLAUSE if COND",
         Keyword::Script => b"script NAME budget N",
         Keyword::Plan => b"plan NAME",
@@ -34,7 +36,7 @@ pub fn form_of(keyword: Keyword) -> &'static [u8] {
 /// What is wanted there, in a sentence of its own.
 pub fn wanted_words(wanted: Wanted) -> &'static [u8] {
     match wanted {
-        Wanted::Version => b"The version of the language is 1 or 2.",
+        Wanted::Version => b"The version of the language is 1, 2 or 3.",
         Wanted::Name =>
             b"A name or a word is a lower case letter, and up to 15 lower case letters, digits and hyphens.",
         Wanted::Key => b"A key is 1 to 16 hexadecimal digits, also behind 0x, and not zero.",
@@ -48,6 +50,7 @@ pub fn wanted_words(wanted: Wanted) -> &'static [u8] {
         Wanted::Reservation =>
             b"A reservation is none, T:NAME for the types 1, 3, 5 and 6, or T for the types 7 and 8.",
         Wanted::Budget => b"The word budget stands here.",
+        Wanted::Order => b"The word conflict stands here.",
         Wanted::Action =>
             b"A clause is register KEY, unregister, reserve T, release, clear, preempt KEY T, read or write.",
         Wanted::Kind => b"A type is 1, 3, 5, 6, 7 or 8.",

@@ -72,8 +72,8 @@ fn meant_first(told: &Told<'_>, first: Placed<'_>) -> Option<Meant> {
 
 const NO_LINE: &[u8] =
     b"No line begins so. Outside scripts a line begins with keys, host, guest, start, reservation,
-generation, pending, busy, full, resets, role, script or plan; in a script with send, on, done,
-repeat, break, stop or end.\n";
+generation, pending, busy, full, resets, alone, order, role, script or plan; in a script with send,
+on, done, repeat, break, stop or end.\n";
 
 // The form of the lines that begin so, where it says more than what is wanted.
 fn tell_form<W: Write>(writer: &mut W, word: &[u8]) -> Result<(), WriteFault> {

@@ -38,6 +38,8 @@ pub fn stands(keyword: Keyword, within: Within) -> bool {
         | Keyword::Reservation
         | Keyword::Generation
         | Keyword::Resets
+        | Keyword::Alone
+        | Keyword::Order
         | Keyword::Role
         | Keyword::Script
         | Keyword::Plan => within == Within::Nothing,
@@ -59,12 +61,14 @@ fn words_behind(keyword: Keyword) -> (usize, usize) {
         | Keyword::Guest
         | Keyword::Generation
         | Keyword::Resets
+        | Keyword::Order
         | Keyword::Plan
         | Keyword::Repeat
         | Keyword::Stop => (1, 1),
         Keyword::Busy | Keyword::Full => (2, 2),
         Keyword::Script => (3, 3),
         Keyword::Keys | Keyword::Reservation | Keyword::Send | Keyword::On => (1, MOST_WORDS),
+        Keyword::Alone => (1, MOST_WORDS),
         Keyword::Start | Keyword::Pending | Keyword::Role => (2, MOST_WORDS),
     }
 }
@@ -76,6 +80,7 @@ pub fn wanted_behind(first: &[u8], wanted: Wanted) -> Wanted {
         Some(Keyword::Start) => Wanted::Alternative,
         Some(Keyword::Pending) => Wanted::Attention,
         Some(Keyword::Busy | Keyword::Full) => Wanted::Count,
+        Some(Keyword::Alone) => Wanted::Name,
         Some(Keyword::Script) => Wanted::Budget,
         _ => Wanted::End,
     }

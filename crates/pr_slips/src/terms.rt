@@ -21,6 +21,7 @@ pub fn is_one(word: &[u8], wanted: Wanted) -> bool {
         Wanted::Count | Wanted::Address => amount_of(MOST_ADDRESS, word).is_some(),
         Wanted::Blocks => amount_of(MOST_BLOCKS, word).is_some(),
         Wanted::Budget => word == b"budget".as_slice(),
+        Wanted::Order => word == b"conflict".as_slice(),
         Wanted::Kind => matches!(word, b"1" | b"3" | b"5" | b"6" | b"7" | b"8"),
         Wanted::Arm => matches!(
             word,

@@ -23,7 +23,7 @@ pub use Rattle.pr_roles.specs.FirstStarts.{first_under}
 pub use Rattle.pr_roles.specs.declared.limits.TheConstants.{MOST_CLAUSES, MOST_PLANNED, MOST_REFUSALS, MOST_RESETS}
 pub use Rattle.pr_roles.specs.declared.role.Clause.{Clause}
 pub use Rattle.pr_lines.specs.Chain.{each}
-pub use Rattle.pr_lines.specs.ScenarioLines.{states, ScenarioLine, DeclaringLine, StatementLine, fence_line, declares, nexus_line, start_line, pending_line, refusals_line, resets_line, role_line, script_line, plan_line, end_line, send_line, on_line, done_line, repeat_line, break_line, stop_line, command_line, keys_line, reservation_line, generation_line}
+pub use Rattle.pr_lines.specs.ScenarioLines.{states, ScenarioLine, DeclaringLine, StatementLine, fence_line, declares, nexus_line, start_line, pending_line, refusals_line, resets_line, alone_line, order_line, role_line, script_line, plan_line, end_line, send_line, on_line, done_line, repeat_line, break_line, stop_line, command_line, keys_line, reservation_line, generation_line}
 pub use Rattle.pr_lines.specs.Versions.{since}
 pub use Rattle.pr_lines.specs.declared.item.RefusalKind.{RefusalKind}
 pub use Rattle.pr_lines.specs.declared.spelling.ParsedCommand.{ParsedCommand}

@@ -1,6 +1,6 @@
 -- Agrees with docs/FORMATS.md, 'The lines of a scenario'.
 -- What the lines so far declare.
-use Rattle.std.specs.Prelude.{ℕ, Bool, List, [], Option, None}
+use Rattle.std.specs.Prelude.{ℕ, Bool, List, [], Option, None, false}
 use Rattle.pr_cdb.specs.declared.command.Command.{Command}
 use Rattle.pr_registry.specs.declared.held.Held.{Held}
 use Rattle.pr_attention.specs.Attentions.{Codes}
@@ -15,7 +15,7 @@ pub data WrittenTask : Type 0 where
   planned : List Command → WrittenTask
 
 -- a nexus, the line that declares it, and what other lines have said of it so far, as how often it may be answered
--- BUSY and TASK SET FULL
+-- BUSY and TASK SET FULL, and whether nobody else sends on its path
 pub record Declaration : Type 0 where
   pub name : List ℕ
   pub line : ℕ
@@ -24,6 +24,7 @@ pub record Declaration : Type 0 where
   pub pending : Option Codes
   pub busy : Option ℕ
   pub full : Option ℕ
+  pub alone : Bool
   pub role : List Clause
   pub task : Option WrittenTask
 
@@ -53,17 +54,18 @@ pub data Context : Type 0 where
   in_script : OpenLines → Context
   in_plan : ℕ → List Command → Context
 
--- The version is that of the text, and 1 before its first line. The resets are how often the unit may be reset during
--- a run.
+-- The version is that of the text, and 1 before its first line. The resets are how often the unit may be reset during a run. In
+-- order is a disk of which a line says that it looks at the reservation before an attention.
 pub record Declared : Type 0 where
   pub version : ℕ
   pub keys : Option (List ℕ)
   pub reservations : Option (List (Option Held))
   pub generation : Option ℕ
   pub resets : Option ℕ
+  pub in_order : Bool
   pub nexuses : List Declaration
   pub place : Context
 
 -- nothing is declared yet
 abbrev pub nothing : Declared
-nothing = record { version = 1; keys = None; reservations = None; generation = None; resets = None; nexuses = []; place = before_all }
+nothing = record { version = 1; keys = None; reservations = None; generation = None; resets = None; in_order = false; nexuses = []; place = before_all }

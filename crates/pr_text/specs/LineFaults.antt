@@ -5,8 +5,8 @@
 -- statements, and whether the innermost has begun. In that it has the shape of the code. It keeps no tree of statements, as the
 -- code does. What is independent of it: a scenario that is read is one whose lines are the text's (`Reading`), those lines have no
 -- fault (`ScenarioRoundTrip`), no text is written as two scenarios (`Laws`), and tests/vectors has each fault by hand.
-use Rattle.std.specs.Prelude.{ℕ, List, length, Option, if◌then◌else◌, [], Some, None, option_map, Bool, ◌&&◌, is_none, unwrap_or, false, ◌==◌, ◌||◌, not, nat_lt, nat_le, is_some, true, count_by}
-use Rattle.std.specs.List.{list_all}
+use Rattle.std.specs.Prelude.{ℕ, List, length, Option, if◌then◌else◌, [], Some, None, option_map, Bool, ◌&&◌, is_none, unwrap_or, false, ◌==◌, ◌||◌, not, nat_lt, nat_le, is_some, true, count_by, bytes_eq}
+use Rattle.std.specs.List.{list_all, list_any}
 use Rattle.pr_cdb.specs.declared.command.Command.{Command}
 use Rattle.pr_roles.specs.Fitting.{most_declared, are_distinct, is_alternative, is_same_alternative, is_same_reservation, is_action}
 use Rattle.pr_attention.specs.Attentions.{code_of}
@@ -23,7 +23,7 @@ use Rattle.pr_text.specs.declared.fault.ReadError.TheVariants as fault
 use Rattle.pr_text.specs.Declarations.{OpenLines, Declared}
 use Rattle.pr_lines.specs.Chain.{each}
 use Rattle.pr_text.specs.Declaring.{declared_keys, number_of, nexus_named, holds_of, count_in, held_of, is_spelled}
-use Rattle.pr_lines.specs.ScenarioLines.{DeclaringLine, StatementLine, ScenarioLine, fence_line, declares, states, keys_line, nexus_line, start_line, pending_line, refusals_line, reservation_line, generation_line, resets_line, role_line, script_line, plan_line, end_line, send_line, on_line, done_line, repeat_line, break_line, stop_line, command_line}
+use Rattle.pr_lines.specs.ScenarioLines.{DeclaringLine, StatementLine, ScenarioLine, fence_line, declares, states, keys_line, nexus_line, start_line, pending_line, refusals_line, reservation_line, generation_line, resets_line, alone_line, order_line, role_line, script_line, plan_line, end_line, send_line, on_line, done_line, repeat_line, break_line, stop_line, command_line}
 use Rattle.pr_lines.specs.Versions.{since}
 use Rattle.pr_text.specs.Standing.{by_place, is_before_all, is_outside, of_plan, of_script, by_innermost, is_repeating, is_sending, awaits_arm, awaits_more, may_close}
 
@@ -39,6 +39,8 @@ names_unknown d (refusals_line r name count) = is_none (nexus_named d name)
 names_unknown d (reservation_line ws) = is_none (each (held_of d.nexuses) ws)
 names_unknown d (generation_line g) = false
 names_unknown d (resets_line count) = false
+names_unknown d (alone_line names) = not (list_all (λ name. holds_of d name (λ x. not x.is_guest)) names)
+names_unknown d order_line = false
 names_unknown d (role_line name clause) = is_none (nexus_named d name)
 names_unknown d (script_line name budget) = not (holds_of d name (λ x. not x.is_guest))
 names_unknown d (plan_line name) = not (holds_of d name (λ x. x.is_guest))
@@ -53,6 +55,8 @@ keys_undeclared d (refusals_line r name count) = false
 keys_undeclared d (reservation_line ws) = false
 keys_undeclared d (generation_line g) = false
 keys_undeclared d (resets_line count) = false
+keys_undeclared d (alone_line names) = false
+keys_undeclared d order_line = false
 keys_undeclared d (role_line name clause) = not (is_action (declared_keys d) clause.action)
 keys_undeclared d (script_line name budget) = false
 keys_undeclared d (plan_line name) = false
@@ -67,6 +71,8 @@ says_again d (refusals_line r name count) = holds_of d name (λ x. is_some (coun
 says_again d (reservation_line ws) = is_some d.reservations || not (are_distinct is_same_reservation (unwrap_or (each (held_of d.nexuses) ws) []))
 says_again d (generation_line g) = is_some d.generation
 says_again d (resets_line count) = is_some d.resets
+says_again d (alone_line names) = list_any (λ name. holds_of d name (λ x. x.alone)) names || not (are_distinct bytes_eq names)
+says_again d order_line = d.in_order
 says_again d (role_line name clause) = false
 says_again d (script_line name budget) = holds_of d name (λ x. is_some x.task)
 says_again d (plan_line name) = holds_of d name (λ x. is_some x.task)
@@ -86,6 +92,8 @@ past_limit d (refusals_line r name count) = if not (nat_le 1 count && nat_le cou
 past_limit d (reservation_line ws) = None
 past_limit d (generation_line g) = None
 past_limit d (resets_line count) = if not (nat_le 1 count && nat_le count MOST_RESETS) then Some which.Resets else None
+past_limit d (alone_line names) = None
+past_limit d order_line = None
 past_limit d (role_line name clause) = if holds_of d name (λ x. nat_le MOST_CLAUSES (length x.role)) then Some which.Roles else None
 past_limit d (script_line name budget) = if not (nat_le 1 budget && nat_le budget MOST_BUDGET) then Some which.Budget else None
 past_limit d (plan_line name) = None

@@ -1,6 +1,6 @@
 -- Agrees with docs/FORMATS.md, 'The lines of a scenario'.
 -- What the next line makes of what is declared so far.
-use Rattle.std.specs.Prelude.{ℕ, List, [], ◌∷◌, Some, None, Bool, false, ◌++◌, slice_set, Result, drop, true, ◌+◌}
+use Rattle.std.specs.Prelude.{ℕ, List, [], ◌∷◌, Some, None, Bool, false, ◌++◌, slice_set, Result, drop, true, ◌+◌, fold}
 use Rattle.std.specs.Option.{option_map_or}
 use Rattle.std.specs.List.{slice_get}
 use Rattle.pr_script.specs.declared.script.Test.{Test}
@@ -11,7 +11,7 @@ use Rattle.pr_text.specs.Declarations.{WrittenTask, scripted, planned, Declarati
 use Rattle.pr_lines.specs.Chain.{each}
 use Rattle.pr_text.specs.Declaring.{number_of, codes_of, held_of}
 use Rattle.pr_text.specs.Faults.{unless}
-use Rattle.pr_lines.specs.ScenarioLines.{ScenarioLine, fence_line, keys_line, nexus_line, start_line, pending_line, refusals_line, reservation_line, generation_line, resets_line, role_line, script_line, plan_line, end_line, send_line, on_line, done_line, repeat_line, break_line, stop_line, command_line, DeclaringLine, StatementLine, declares, states}
+use Rattle.pr_lines.specs.ScenarioLines.{ScenarioLine, fence_line, keys_line, nexus_line, start_line, pending_line, refusals_line, reservation_line, generation_line, resets_line, alone_line, order_line, role_line, script_line, plan_line, end_line, send_line, on_line, done_line, repeat_line, break_line, stop_line, command_line, DeclaringLine, StatementLine, declares, states}
 use Rattle.pr_text.specs.LineFaults.{fault_at}
 use Rattle.pr_text.specs.ScriptLines.{ScriptLine, send_at, arm_on, block_done, repeat_of, break_out, stop_with}
 use Rattle.pr_text.specs.Standing.{by_place, of_plan, of_script, by_innermost}
@@ -28,7 +28,11 @@ with_named d name f = option_map_or (λ h. with_nexus d h f) (number_of d.nexuse
 -- one more is declared, of which nothing is said yet
 abbrev pub with_more : ℕ → Bool → List ℕ → Declared → Declared
 with_more n guest name d =
-    record d { nexuses = d.nexuses ++ record { name = name; line = n; is_guest = guest; start = None; pending = None; busy = None; full = None; role = []; task = None } ∷ [] }
+    record d { nexuses = d.nexuses ++ record { name = name; line = n; is_guest = guest; start = None; pending = None; busy = None; full = None; alone = false; role = []; task = None } ∷ [] }
+
+-- nobody else sends on the path of this one
+abbrev pub with_alone : Declared → List ℕ → Declared
+with_alone d name = with_named d name (λ x. record x { alone = true })
 
 -- this refusal may come so often
 abbrev pub with_count : RefusalKind → ℕ → Declaration → Declaration
@@ -83,6 +87,8 @@ with_declared n d (refusals_line r name count) = with_named d name (with_count r
 with_declared n d (reservation_line ws) = record d { reservations = each (held_of d.nexuses) ws }
 with_declared n d (generation_line g) = record d { generation = Some g }
 with_declared n d (resets_line count) = record d { resets = Some count }
+with_declared n d (alone_line names) = fold with_alone d names
+with_declared n d order_line = record d { in_order = true }
 with_declared n d (role_line name clause) = with_named d name (λ x. record x { role = x.role ++ clause ∷ [] })
 with_declared n d (script_line name budget) = option_map_or (λ h. record d { place = in_script (begun_script h budget) }) (number_of d.nexuses name) d
 with_declared n d (plan_line name) = option_map_or (λ h. record d { place = in_plan h [] }) (number_of d.nexuses name) d

@@ -1,10 +1,11 @@
 -- Agrees with docs/FORMATS.md, 'Scenario text'.
 -- The scenario that a text is.
-use Rattle.std.specs.Prelude.{◌≡◌, ℕ, List, [], map, Option, unwrap_or, Result, Ok, Err, false}
+use Rattle.std.specs.Prelude.{◌≡◌, ℕ, Bool, false, not, ◌&&◌, nat_lt, List, [], map, Option, unwrap_or, Result, Ok, Err}
+use Rattle.std.specs.List.{slice_get}
+use Rattle.std.specs.Option.{option_map_or}
 use Rattle.pr_attention.specs.Attentions.{Codes}
 use Rattle.pr_attention.specs.CodeSets.{no_code}
 use Rattle.pr_roles.specs.declared.role.Clause.{Clause}
-use Rattle.pr_roles.specs.Laws.{NobodyShares}
 use Rattle.pr_roles.specs.Scenarios.{Scenario, Nexus, Task, Scripted, Planned, scenario_of}
 use Rattle.pr_roles.specs.declared.parts.Parts.{Parts}
 use Rattle.pr_text.specs.declared.fault.ReadError.{ReadError}
@@ -43,17 +44,24 @@ nexus_declared x = record {
   full = unwrap_or x.full 0;
 }
 
+-- From version 3 on somebody else may send on the path of a host, unless a line says that nobody does.
+abbrev pub is_shared_path : ℕ → Declaration → Bool
+is_shared_path version x = nat_lt 2 version && (not x.is_guest && not x.alone)
+
+-- From version 3 on the disk may report an attention before it looks at the reservation, unless a line says that it doesn't.
+abbrev pub is_early_in : Declared → Bool
+is_early_in d = nat_lt 2 d.version && not d.in_order
+
 -- The scenario is just what is declared: its scripts are written as the lines that were read. Where no line says how often the
--- unit may be reset, it is not reset. No line says that a path is shared, nor that the disk reports an attention before it looks
--- at the reservation.
+-- unit may be reset, it is not reset.
 pub record IsDeclaredBy (d : Declared) (s : Scenario) : Type 0 where
   pub version : s.version ≡ d.version
   pub keys : s.keys ≡ unwrap_or d.keys []
   pub reservations : s.reservations ≡ reservations_of d
   pub generation : s.generation ≡ unwrap_or d.generation 0
   pub resets : s.resets ≡ unwrap_or d.resets 0
-  pub alone : NobodyShares s
-  pub order : s.early ≡ false
+  pub paths : (h : ℕ) → s.shared h ≡ option_map_or (is_shared_path d.version) (slice_get d.nexuses h) false
+  pub order : s.early ≡ is_early_in d
   pub nexuses : map nexus_written s.nexuses ≡ map nexus_declared d.nexuses
 
 -- The text has no fault, and the scenario is what it declares.

@@ -1,6 +1,6 @@
 -- Agrees with docs/FORMATS.md, 'The lines of a scenario'.
 -- The lines that a scenario is written as, and what the reader makes of them.
-use Rattle.std.specs.Prelude.{◌≡◌, ℕ, List, [], ◌∷◌, ◌++◌, map, filter, Option, Some, None, Ok, true, false, ◌==◌, if◌then◌else◌}
+use Rattle.std.specs.Prelude.{◌≡◌, ℕ, suc, nat_lt, List, [], ◌∷◌, ◌++◌, map, filter, Option, Some, None, Ok, Bool, true, false, not, ◌&&◌, ◌==◌, if◌then◌else◌}
 use Rattle.std.specs.FinSet as set
 use Rattle.std.specs.List.{All, flat_map, slice_get}
 use Rattle.std.specs.Option.{option_map_or}
@@ -9,14 +9,14 @@ use Rattle.pr_registry.specs.declared.held.Held.TheVariants.{One, All as Everybo
 use Rattle.pr_attention.specs.declared.attention.Attention.{Attention}
 use Rattle.pr_attention.specs.Attentions.{Codes, code_of, each_attention}
 use Rattle.pr_attention.specs.CodeSets.{AreAttentions}
-use Rattle.pr_roles.specs.Laws.{NobodyShares}
 use Rattle.pr_roles.specs.Scenarios.{Scenario, Nexus, Task, Scripted, Planned}
 use Rattle.pr_roles.specs.Starts.{CanStart}
+use Rattle.pr_roles.specs.Worlds.{is_guest_task}
 use Rattle.pr_roles.specs.Fitting.{Fits}
 use Rattle.pr_lines.specs.declared.item.RefusalKind.{RefusalKind}
 use Rattle.pr_lines.specs.declared.item.RefusalKind.TheVariants as refusal
 use Rattle.pr_lines.specs.CommandWords.{without_keys}
-use Rattle.pr_lines.specs.ScenarioLines.{StartReservation, nobody, single, everybody, ScenarioLine, fence_line, keys_line, nexus_line, start_line, pending_line, refusals_line, reservation_line, generation_line, resets_line, role_line, script_line, plan_line, end_line, command_line, declares}
+use Rattle.pr_lines.specs.ScenarioLines.{StartReservation, nobody, single, everybody, ScenarioLine, fence_line, keys_line, nexus_line, start_line, pending_line, refusals_line, reservation_line, generation_line, resets_line, alone_line, order_line, role_line, script_line, plan_line, end_line, command_line, declares}
 use Rattle.pr_text.specs.ScriptLines.{body_lines}
 use Rattle.pr_text.specs.ScriptRoundTrip.{Line, line, script_said, all_said}
 use Rattle.pr_text.specs.Declarations.{Declared, nothing}
@@ -73,6 +73,29 @@ wanted_by nexuses None = nobody
 wanted_by nexuses (Some (One kind h)) = single kind (option_map_or (λ x. x.name) (slice_get nexuses h) [])
 wanted_by nexuses (Some (Everybody kind)) = everybody kind
 
+abbrev pub is_host : Nexus → Bool
+is_host x = not (is_guest_task (Some x.task))
+
+-- where it is not said that nobody else sends on a path, nothing is written
+abbrev pub alone_said : ℕ → List ℕ → Bool → List Line
+alone_said n name is_said = if is_said then line n (declares (alone_line (name ∷ []))) ∷ [] else []
+
+-- the hosts of which that is said, by their numbers
+abbrev pub all_alone_said : ℕ → (ℕ → Bool) → List Nexus → List Line
+all_alone_said n is_said [] = []
+all_alone_said n is_said (x ∷ xs) = alone_said n x.name (is_host x && is_said 0) ++ all_alone_said n (λ h. is_said (suc h)) xs
+
+-- where it is not said that the disk looks at the reservation first, nothing is written
+abbrev pub order_said : ℕ → Bool → List Line
+order_said n is_said = if is_said then line n (declares order_line) ∷ [] else []
+
+-- from version 3 on a line says of a host that nobody shares its path, and of the disk that it looks at the reservation first
+abbrev pub says_alone : Scenario → ℕ → Bool
+says_alone s h = nat_lt 2 s.version && not (s.shared h)
+
+abbrev pub says_order : Scenario → Bool
+says_order s = nat_lt 2 s.version && not s.early
+
 abbrev pub lines_said : ℕ → Scenario → List Line
 lines_said n s =
     line n (fence_line s.version)
@@ -81,7 +104,7 @@ lines_said n s =
     ++ (line n (declares (generation_line s.generation))
     ∷ (resets_said n s.resets
     ++ (line n (declares (reservation_line (map (wanted_by s.nexuses) s.reservations)))
-    ∷ flat_map (details_said n) s.nexuses)))))
+    ∷ (flat_map (details_said n) s.nexuses ++ (all_alone_said n (says_alone s) s.nexuses ++ order_said n (says_order s))))))))
 
 -- What is declared is whole where the last line has this number, and the scenario is just that.
 pub record IsWhole (number : ℕ) (d : Declared) (s : Scenario) : Type 0 where
@@ -94,7 +117,11 @@ pub record IsSaid (n : ℕ) (s : Scenario) : Type 0 where
   pub faultless : all_said (lines_said n s) nothing ≡ Ok declared
   pub whole : IsWhole n declared s
 
--- The lines of a scenario have no fault, if its parts fit, some state is allowed to start from, nobody shares a path, the disk
--- looks at the reservation first, and what may be pending are attentions.
+-- Only hosts share their paths, and from version 3 on.
+abbrev pub HostsShare : Scenario → Type 0
+HostsShare s = (h : ℕ) → s.shared h ≡ true → (nat_lt 2 s.version && option_map_or is_host (slice_get s.nexuses h) false) ≡ true
+
+-- The lines of a scenario have no fault, if its parts fit, some state is allowed to start from, only hosts share their paths, and
+-- what may be pending are attentions.
 abbrev pub ScenariosHaveNoFault : Type 0
-ScenariosHaveNoFault = (n : ℕ) (s : Scenario) → Fits s → CanStart s → NobodyShares s → s.early ≡ false → All (λ x. AreAttentions x.pending) s.nexuses → IsSaid n s
+ScenariosHaveNoFault = (n : ℕ) (s : Scenario) → Fits s → CanStart s → HostsShare s → All (λ x. AreAttentions x.pending) s.nexuses → IsSaid n s

@@ -10,7 +10,7 @@ use crate::diagnosis::{Above, Section};
 use crate::draft::{Draft, number_in, pending_of};
 use crate::fault::{ReadError, Which};
 use crate::open_script::{OpenScript, is_spelled};
-use crate::uniqueness::are_codes_distinct;
+use crate::uniqueness::{are_codes_distinct, are_names_distinct};
 use pr_attention::Attention;
 use pr_cdb::Command;
 use pr_lines::{ParsedCommand, RefusalKind, ScenarioLine, StartReservation};
@@ -46,25 +46,28 @@ pub struct Builder {
     pub generation: Option<u32>,
     /// How often the unit may be reset during a run.
     pub resets: Option<u32>,
+    /// Whether a line says that the disk looks at the reservation before an attention.
+    pub in_order: bool,
     pub nexuses: Vec<Draft>,
     pub place: Context,
     ghost few: { length nexuses.items ≤ MOST_DECLARED_2 },
 }
 
 impl Builder {
-    ghost use Rattle.std.specs.Prelude.{◌≡◌, ◌<◌, nat_lt, IfOk, IfSome, [], length, map, option_map, position, bytes_eq};
+    ghost use Rattle.std.specs.Prelude.{◌≡◌, ◌<◌, nat_lt, not, IfOk, IfSome, [], length, map, fold, option_map, position, bytes_eq};
+    ghost use Rattle.std.specs.List.{list_all, list_any};
     ghost use Rattle.pr_text.specs.declared.builder.Context.TheVariants.{Outside};
     ghost use Rattle.pr_text.specs.inside.Steps.{Gives};
     ghost use Rattle.pr_lines.specs.LineValues.{line_of_value, wanted_seen};
-    ghost use Rattle.pr_lines.specs.ScenarioLines.{keys_line, nexus_line, start_line, pending_line, refusals_line, reservation_line, generation_line, resets_line, role_line, script_line, plan_line, end_line};
+    ghost use Rattle.pr_lines.specs.ScenarioLines.{keys_line, nexus_line, start_line, pending_line, refusals_line, reservation_line, generation_line, resets_line, alone_line, order_line, role_line, script_line, plan_line, end_line};
     ghost use Rattle.pr_lines.specs.Versions.{since};
     ghost use Rattle.pr_text.specs.Declarations.{before_all, in_script, in_plan, nothing};
-    ghost use Rattle.pr_text.specs.Declaring.{declared_keys, number_of, held_of};
+    ghost use Rattle.pr_text.specs.Declaring.{declared_keys, number_of, nexus_named, holds_of, held_of};
     ghost use Rattle.pr_lines.specs.Chain.{each};
     ghost use Rattle.pr_text.specs.inside.Drafts.{draft_seen, task_seen, declared_by};
     ghost use Rattle.pr_text.specs.inside.OpenScripts.{open_seen};
     ghost use Rattle.pr_text.specs.inside.LineSteps.{declaring_step, item_standing};
-    ghost use Rattle.pr_text.specs.NextLine.{with_task, item_placed};
+    ghost use Rattle.pr_text.specs.NextLine.{with_alone, with_task, item_placed};
 
     /// Nothing is declared yet.
     pub fn new(alloc: Global) -> Self
@@ -76,6 +79,7 @@ impl Builder {
             reservations: None,
             generation: None,
             resets: None,
+            in_order: false,
             nexuses: Vec::new(alloc),
             place: Context::BeforeAll,
         }
@@ -165,6 +169,8 @@ impl Builder {
             ScenarioLine::Reservation(wanted) => self.reservation_line(alloc, line, &wanted),
             ScenarioLine::Generation(generation) => self.generation_line(line, generation),
             ScenarioLine::Resets(count) => self.resets_line(line, count),
+            ScenarioLine::Alone(names) => self.alone_line(line, &names),
+            ScenarioLine::Order => self.order_line(line),
             ScenarioLine::Role(name, clause) => self.role_line(line, name, clause),
             ScenarioLine::Script(name, budget) => self.script_line(alloc, line, name, budget),
             ScenarioLine::Plan(name) => self.plan_line(alloc, line, name),
@@ -327,6 +333,88 @@ impl Builder {
             return Err(ReadError::Limit { which, line });
         }
         self.resets = Some(count as u32);
+        Ok(self)
+    }
+
+    #[tactic(auto, unfolding(crate::specs::inside::LineSteps::declaring_step), using(crate::proofs::lemmas::Drafts::Numbers::all_named, crate::proofs::lemmas::Drafts::Numbers::any_named, crate::proofs::lemmas::Drafts::Numbers::fold_named))]
+    fn alone_line(mut self, line: u32, names: &[Word]) -> Result<Self, ReadError>
+        ensures { Gives declared_by result
+            (declaring_step line (alone_line (map (λ name. name.bytes) names.now))
+            (declared_by self)) }
+    {
+        if !self.are_hosts(names) {
+            return Err(ReadError::UnknownName { line });
+        }
+        if self.is_alone_among(names) || !are_names_distinct(names) {
+            return Err(ReadError::Repeated { line });
+        }
+        self.set_all_alone(names);
+        Ok(self)
+    }
+
+    // Whether each of these names is a host's.
+    fn are_hosts(&self, names: &[Word]) -> bool
+        ensures { result ≡ list_all (λ name. holds_of (declared_by self.now) name.bytes
+            (λ x. not x.is_guest)) names.now }
+    {
+        names.iter().all(|name| self.is_host(name))
+    }
+
+    fn is_host(&self, name: &Word) -> bool
+        ensures { result ≡ holds_of (declared_by self.now) name.now.bytes (λ x. not x.is_guest) }
+    {
+        self.nexus_named(name).is_some_and(|nexus| !nexus.is_guest)
+    }
+
+    // Whether a line has said of one of these that nobody else sends on its path.
+    fn is_alone_among(&self, names: &[Word]) -> bool
+        ensures { result ≡ list_any (λ name. holds_of (declared_by self.now) name.bytes
+            (λ x. x.alone)) names.now }
+    {
+        names.iter().any(|name| self.is_alone(name))
+    }
+
+    fn is_alone(&self, name: &Word) -> bool
+        ensures { result ≡ holds_of (declared_by self.now) name.now.bytes (λ x. x.alone) }
+    {
+        self.nexus_named(name).is_some_and(|nexus| nexus.alone)
+    }
+
+    fn nexus_named(&self, name: &Word) -> Option<&Draft>
+        ensures { option_map (λ x. draft_seen x.now) result
+            ≡ nexus_named (declared_by self.now) name.now.bytes }
+    {
+        let number = self.number_of(name)?;
+        Some(&self.nexuses[number])
+    }
+
+    // Nobody else sends on the paths of these.
+    fn set_all_alone(&mut self, names: &[Word])
+        ensures { declared_by self.new
+            ≡ fold (λ d name. with_alone d name.bytes) (declared_by self.old) names.now }
+    {
+        for name in names {
+            self.set_alone(name);
+        }
+    }
+
+    #[tactic(auto, using(crate::proofs::lemmas::Drafts::Numbers::found, crate::proofs::lemmas::Drafts::Numbers::changed))]
+    fn set_alone(&mut self, name: &Word)
+        ensures { declared_by self.new ≡ with_alone (declared_by self.old) name.now.bytes }
+    {
+        if let Some(number) = self.number_of(name) {
+            self.nexuses[number].alone = true;
+        }
+    }
+
+    #[tactic(auto, unfolding(crate::specs::inside::LineSteps::declaring_step))]
+    fn order_line(mut self, line: u32) -> Result<Self, ReadError>
+        ensures { Gives declared_by result (declaring_step line order_line (declared_by self)) }
+    {
+        if self.in_order {
+            return Err(ReadError::Repeated { line });
+        }
+        self.in_order = true;
         Ok(self)
     }
 

@@ -20,12 +20,14 @@ pub struct Draft {
     /// How often it may be answered BUSY, and how often TASK SET FULL.
     pub busy: Option<u32>,
     pub full: Option<u32>,
+    /// Nobody else sends on its path.
+    pub alone: bool,
     pub role: Vec<Clause>,
     pub task: Option<Task>,
 }
 
 impl Draft {
-    ghost use Rattle.std.specs.Prelude.{◌≡◌, [], None};
+    ghost use Rattle.std.specs.Prelude.{◌≡◌, [], None, false};
     ghost use Rattle.pr_text.specs.Declaring.{count_in};
     ghost use Rattle.pr_text.specs.NextLine.{with_count};
     ghost use Rattle.pr_text.specs.inside.Drafts.{draft_seen};
@@ -40,6 +42,7 @@ impl Draft {
           pending = None;
           busy = None;
           full = None;
+          alone = false;
           role = [];
           task = None;
         } }
@@ -52,6 +55,7 @@ impl Draft {
             pending: None,
             busy: None,
             full: None,
+            alone: false,
             role: Vec::new(alloc),
             task: None,
         }

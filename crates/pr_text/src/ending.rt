@@ -1,11 +1,11 @@
 //! The end of a text: what is missing, and the scenario that was declared.
 
-ghost use Rattle.std.specs.Prelude.{◌≡◌, [], ◌∷◌, false, IfOk, map, option_map, unwrap_or};
+ghost use Rattle.std.specs.Prelude.{◌≡◌, [], ◌∷◌, IfOk, map, option_map, unwrap_or};
 ghost use Rattle.pr_roles.specs.Scenarios.{nexus_of};
 ghost use Rattle.pr_text.specs.inside.Drafts.{draft_seen};
 ghost use Rattle.pr_text.specs.Texts.{first_unscripted};
-ghost use Rattle.pr_text.specs.inside.Endings.{AreAlone, whole_fault};
-ghost use Rattle.pr_text.specs.Reading.{nexus_written, nexus_declared};
+ghost use Rattle.pr_text.specs.inside.Endings.{whole_fault};
+ghost use Rattle.pr_text.specs.Reading.{nexus_written, nexus_declared, is_shared_path};
 
 use crate::builder::{Builder, Context};
 use crate::draft::Draft;
@@ -57,7 +57,7 @@ impl Builder {
     }
 
     // The parts that are declared.
-    #[tactic(auto, unfolding(pr_roles::specs::Scenarios::scenario_of))]
+    #[tactic(auto, unfolding(pr_roles::specs::Scenarios::scenario_of), using(crate::proofs::lemmas::Endings::Faults::paths_of))]
     fn parts(self, alloc: Global) -> Result<Parts, AllocError>
         ensures declared { IfOk result (λ parts. IsDeclaredBy (declared_by self)
             (scenario_of parts)) }
@@ -69,6 +69,7 @@ impl Builder {
             reservations,
             generation,
             resets,
+            in_order,
             nexuses,
             place: _,
         } = self;
@@ -78,8 +79,8 @@ impl Builder {
             reservations: or_none(alloc, reservations)?,
             generation: generation.unwrap_or(0),
             resets: resets.unwrap_or(0),
-            early: false,
-            nexuses: nexuses_of(alloc, nexuses)?,
+            early: version > 2 && !in_order,
+            nexuses: nexuses_of(alloc, version, nexuses)?,
         })
     }
 }
@@ -128,31 +129,35 @@ fn or_none<T: Drop>(
     }
 }
 
-fn nexuses_of(alloc: Global, drafts: Vec<Draft>) -> Result<Vec<Nexus>, AllocError>
+fn nexuses_of(alloc: Global, version: u8, drafts: Vec<Draft>) -> Result<Vec<Nexus>, AllocError>
     ensures declared { IfOk result (λ v. map nexus_written (map nexus_of v.items)
         ≡ map nexus_declared (map draft_seen drafts.items)) }
-    ensures alone { IfOk result (λ v. AreAlone v.items) }
+    ensures paths { IfOk result (λ v. map (λ nexus. nexus.shared) v.items
+        ≡ map (is_shared_path version) (map draft_seen drafts.items)) }
 {
     let mut nexuses = Vec::new(alloc);
     for draft in drafts {
-        nexuses.push(nexus_of(alloc, draft)?)?;
+        nexuses.push(nexus_of(alloc, version, draft)?)?;
     }
     Ok(nexuses)
 }
 
-fn nexus_of(alloc: Global, draft: Draft) -> Result<Nexus, AllocError>
+// From version 3 on somebody else may send on the path of a host, unless a line says that nobody does.
+fn nexus_of(alloc: Global, version: u8, draft: Draft) -> Result<Nexus, AllocError>
     ensures declared { IfOk result (λ nexus. nexus_written (nexus_of nexus)
         ≡ nexus_declared (draft_seen draft)) }
-    ensures alone { IfOk result (λ nexus. nexus.shared ≡ false) }
+    ensures path { IfOk result (λ nexus. nexus.shared
+        ≡ is_shared_path version (draft_seen draft)) }
 {
     let Draft {
         name,
         line: _,
-        is_guest: _,
+        is_guest,
         start,
         pending,
         busy,
         full,
+        alone,
         role,
         task,
     } = draft;
@@ -166,6 +171,6 @@ fn nexus_of(alloc: Global, draft: Draft) -> Result<Nexus, AllocError>
         task: task.unwrap_or(Task::Planned(Vec::new(alloc))),
         busy: busy.unwrap_or(0),
         full: full.unwrap_or(0),
-        shared: false,
+        shared: version > 2 && (!is_guest && !alone),
     })
 }

@@ -8,7 +8,7 @@ use thiserror::Error;
 /// Which limit a text goes past.
 #[derive(Clone, Copy, Debug, PartialEq, Eq)]
 pub enum Which {
-    /// At least 1 and at most 8 nexuses together, in version 2 at most 16.
+    /// At least 1 and at most 8 nexuses together, from version 2 on at most 16.
     Hosts,
     /// At most 12 declared keys.
     Keys,

@@ -1,6 +1,6 @@
 //! Laws of the language, each the contract of a function with nothing to do.
 
-ghost use Rattle.pr_text.specs.Laws.{FirstFaultDecides, TextsAreWrittenOnce, WhatIsWrittenFits};
+ghost use Rattle.pr_text.specs.Laws.{EarlierTextsShareNoPath, FirstFaultDecides, TextsAreWrittenOnce, WhatIsWrittenFits};
 ghost use Rattle.pr_text.specs.ScriptRoundTrip.{ScriptsHaveNoFault};
 ghost use Rattle.pr_text.specs.ScenarioRoundTrip.{ScenariosHaveNoFault};
 
@@ -24,8 +24,13 @@ pub fn scripts_have_no_fault()
     ensures { ScriptsHaveNoFault }
 {}
 
-/// What the lines of a scenario say has no fault, if its parts fit, it can start, and what may be pending are
-/// attentions.
+/// What the lines of a scenario say has no fault, if its parts fit, it can start, only hosts share their paths, and what may be
+/// pending are attentions.
 pub fn scenarios_have_no_fault()
     ensures { ScenariosHaveNoFault }
+{}
+
+/// In a text of version 1 or 2 nobody else sends on any path, and the disk looks at the reservation before an attention.
+pub fn earlier_texts_share_no_path()
+    ensures { EarlierTextsShareNoPath }
 {}

@@ -19,7 +19,7 @@ mod uniqueness;
 pub use diagnosis::{Above, Block, Diagnosis, Section};
 pub use fault::{ReadError, Which};
 pub use laws::{
-    scenarios_have_no_fault, scripts_have_no_fault, texts_are_written_once,
-    the_first_fault_decides, what_is_written_fits,
+    earlier_texts_share_no_path, scenarios_have_no_fault, scripts_have_no_fault,
+    texts_are_written_once, the_first_fault_decides, what_is_written_fits,
 };
 pub use text::{of_text, read, read_with_text};

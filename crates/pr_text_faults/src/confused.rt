@@ -14,11 +14,12 @@ pub fn tell_no_name<W: Write>(
     name: Placed<'_>,
 ) -> Result<bool, WriteFault> {
     if let b"all" | b"any" | b"each" | b"every" | b"everybody" = name.text {
-        put_filled(
-            writer,
-            b"{} is no host or guest, and a line is of one: write one for each.\n",
-            &[Token::Text(name.text)],
-        )?;
+        let sentence: &[u8] = if word_at(&told.words, 0) == b"alone".as_slice() {
+            b"{} is no host: write the name of each.\n"
+        } else {
+            b"{} is no host or guest, and a line is of one: write one for each.\n"
+        };
+        put_filled(writer, sentence, &[Token::Text(name.text)])?;
         return Ok(true);
     }
     let Some(key) = key_or_zero(name.text) else {

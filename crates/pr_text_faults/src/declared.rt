@@ -1,24 +1,35 @@
 //! What a text declares.
 
 use pr_lines::{key_or_zero, next_line};
-use pr_slips::{Nearest, Words, word_at, words_in};
+use pr_slips::{Nearest, Placed, Words, word_at, words_in};
 use pr_words::line_in;
 
 /// The most lines that are looked at: as many as a text has bytes.
 pub const MOST_LINES: u32 = 65_537;
 
-/// The first line of the text whose first words are these.
+/// The first line of the text that begins with this word, and says it of this name where there is one.
 pub fn line_of(text: &[u8], first: &[u8], name: Option<&[u8]>) -> Option<u32> {
     let mut rest = text;
     for number in 1..MOST_LINES {
         let (line, others) = next_line(rest)?;
         let words = words_in(line);
-        if word_at(&words, 0) == first && name.is_none_or(|name| word_at(&words, 1) == name) {
+        if word_at(&words, 0) == first && name.is_none_or(|name| is_of(&words, name)) {
             return Some(number);
         }
         rest = others;
     }
     None
+}
+
+// Whether the line is of this name: the one behind its first word, or one of those behind `alone`.
+fn is_of(words: &[Placed<'_>], name: &[u8]) -> bool {
+    let names = if word_at(words, 0) == b"alone".as_slice() {
+        words.len()
+    } else {
+        1
+    };
+    let mut named = words.iter().skip(1).take(names);
+    named.any(|word| word.text == name)
 }
 
 /// The line of the text that declares the host or guest of this name.

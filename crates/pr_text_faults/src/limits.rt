@@ -5,7 +5,8 @@ use pr_text::Which;
 /// What the limit is.
 pub fn limit_words(which: Which) -> &'static [u8] {
     match which {
-        Which::Hosts => b"There are 1 to 8 hosts and guests together, in version 2 up to 16.\n",
+        Which::Hosts =>
+            b"There are 1 to 8 hosts and guests together, from version 2 on up to 16.\n",
         Which::Keys => b"There are at most 12 declared keys.\n",
         Which::Statements => b"A script has at most 512 statements.\n",
         Which::Arms => b"A send has at most 16 arms.\n",

@@ -21,6 +21,9 @@ enum Reason {
     /// Another line makes it so, whose number stands in place of `{}`.
     Line(&'static [u8], u32),
 
+    /// It came with this version of the language, and the text is of that.
+    Later(u8, u8),
+
     /// The block is open.
     Unclosed(Block),
 
@@ -29,16 +32,12 @@ enum Reason {
 }
 
 const NO_VERSION: &[u8] =
-    b"The first line with words is fence 1 or fence 2, and the text has none.\n";
+    b"The first line with words is fence 1, fence 2 or fence 3, and the text has none.\n";
 
-const NOT_FIRST: &[u8] = b"The first line with words is fence 1 or fence 2.\n";
+const NOT_FIRST: &[u8] = b"The first line with words is fence 1, fence 2 or fence 3.\n";
 
 const OUTSIDE: Reason = Reason::Said(
     b"No script is open here: a statement stands between a line script NAME budget N and its end.\n",
-);
-
-const VERSION: Reason = Reason::Said(
-    b"This came with version 2: the text begins with fence 1, and would have to begin with fence 2.\n",
 );
 
 const NO_SEND: Reason = Reason::Said(b"No send is open here whose arm it could be.\n");
@@ -91,6 +90,7 @@ fn tell_not_first<W: Write>(
     match first.text {
         b"fence1" => return told.put_corrected(writer, first, b"fence 1"),
         b"fence2" => return told.put_corrected(writer, first, b"fence 2"),
+        b"fence3" => return told.put_corrected(writer, first, b"fence 3"),
         word if told.words.len() == 2 && edits(word, b"fence").is_some() => {
             return told.put_corrected(writer, first, b"fence");
         }
@@ -237,7 +237,12 @@ fn reason_outside(
         )),
         Keyword::Send | Keyword::On | Keyword::Done | Keyword::Repeat => Some(OUTSIDE),
         Keyword::Break | Keyword::Stop | Keyword::End => Some(OUTSIDE),
-        Keyword::Busy | Keyword::Full | Keyword::Resets if above.version < 2 => Some(VERSION),
+        Keyword::Busy | Keyword::Full | Keyword::Resets if above.version < 2 => {
+            Some(Reason::Later(2, above.version))
+        }
+        Keyword::Alone | Keyword::Order if above.version < 3 => {
+            Some(Reason::Later(3, above.version))
+        }
         Keyword::Host if misfit.is_none() => Some(NO_SCRIPT),
         _ => None,
     }
@@ -277,7 +282,9 @@ fn reason_of_arm(above: &Above, told: &Told<'_>, misfit: Option<Misfit>) -> Opti
     match above.innermost() {
         None => Some(NO_SEND),
         Some(block) if block.is_repeat => Some(Reason::Unclosed(block)),
-        Some(_) if above.version < 2 && matches!(test, b"busy" | b"full") => Some(VERSION),
+        Some(_) if above.version < 2 && matches!(test, b"busy" | b"full") => {
+            Some(Reason::Later(2, above.version))
+        }
         Some(_) if misfit.is_none() => Some(Reason::Said(NOT_UNDER)),
         Some(_) => None,
     }
@@ -313,6 +320,15 @@ fn tell_reason<W: Write>(
         Reason::Line(sentence, line) => {
             put_source_line(writer, told.text, line)?;
             put_filled(writer, sentence, &[Token::Number(u64::from(line))])
+        }
+        Reason::Later(since, version) => {
+            let since = Token::Number(u64::from(since));
+            let version = Token::Number(u64::from(version));
+            put_filled(
+                writer,
+                b"This came with version {}: the text begins with fence {}, and would have to begin with fence {}.\n",
+                &[since, version, since],
+            )
         }
         Reason::Unclosed(block) => {
             let sentence = b"The {} of line {} is open, and done closes it first.\n";

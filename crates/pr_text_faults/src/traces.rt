@@ -7,7 +7,7 @@ use std::io::Write;
 const SYNTAX: &[u8] =
     b"A line of a trace is INDEX NAME CDB PARAMS STATUS SENSE BYTES, with one space between them: bytes
 have two digits each and are - where there are none, STATUS is 00, 02, 18, 08 or 28, and a sense has
-18 bytes. In version 2 it may be INDEX reset. There are no comments.\n";
+18 bytes. From version 2 on it may be INDEX reset. There are no comments.\n";
 
 const UNKNOWN_NAME: &[u8] = b"The scenario declares no host or guest of that name.\n";
 

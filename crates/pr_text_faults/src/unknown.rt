@@ -26,14 +26,13 @@ pub fn tell_unknown<W: Write>(writer: &mut W, told: &Told<'_>) -> Result<(), Wri
 
 // The first name on the line that no line above declares.
 fn unknown_name<'a>(told: &Told<'a>) -> Option<Placed<'a>> {
-    let is_reservation = word_at(&told.words, 0) == b"reservation".as_slice();
-    for (place, word) in told.words.iter().enumerate() {
-        let name = if is_reservation {
-            holder_in(*word)
-        } else if place == 1 {
-            Some(*word)
-        } else {
-            None
+    let first = word_at(&told.words, 0);
+    for (place, word) in told.words.iter().enumerate().skip(1) {
+        let name = match first {
+            b"reservation" => holder_in(*word),
+            b"alone" => Some(*word),
+            _ if place == 1 => Some(*word),
+            _ => None,
         };
         if let Some(name) = name
             && declaration(told.above, name.text).is_none()
@@ -80,20 +79,35 @@ fn tell_undeclared_name<W: Write>(
     )
 }
 
-// Each name on the line is declared: a guest has no script, or a host no plan.
+// Each name on the line is declared: a guest has no script and is not said to be alone, or a host has no plan.
 fn tell_wrong_kind<W: Write>(writer: &mut W, told: &Told<'_>) -> Result<(), WriteFault> {
-    if let Some(word) = told.words.get(1) {
-        told.put_carets(writer, *word)?;
+    let (kind, sentence) = wrong_kind(word_at(&told.words, 0));
+    for word in told.words.iter().skip(1) {
+        if let Some(line) = line_of(told.above, kind, Some(word.text)) {
+            told.put_carets(writer, *word)?;
+            let line = Token::Number(u64::from(line));
+            return put_filled(writer, sentence, &[Token::Text(word.text), line]);
+        }
     }
-    let sentence: &[u8] = if word_at(&told.words, 0) == b"plan".as_slice() {
-        b"{}, of line {}, is a host: only a guest has a plan, and a host a script.\n"
-    } else {
-        b"{}, of line {}, is a guest: only a host has a script, and a guest a plan.\n"
-    };
-    let name = word_at(&told.words, 1);
-    let line = declaration(told.above, name).unwrap_or(0);
-    let line = Token::Number(u64::from(line));
-    put_filled(writer, sentence, &[Token::Text(name), line])
+    Ok(())
+}
+
+// The word with which the line begins that declares such a name, and what is said of it.
+fn wrong_kind(first: &[u8]) -> (&'static [u8], &'static [u8]) {
+    match first {
+        b"plan" => (
+            b"host",
+            b"{}, of line {}, is a host: only a guest has a plan, and a host a script.\n",
+        ),
+        b"alone" => (
+            b"guest",
+            b"{}, of line {}, is a guest: only of hosts a line says that they are alone on their paths.\n",
+        ),
+        _ => (
+            b"guest",
+            b"{}, of line {}, is a guest: only a host has a script, and a guest a plan.\n",
+        ),
+    }
 }
 
 /// Tells the line, which uses a key that no line above declares.
@@ -184,7 +198,7 @@ const SAID: &[u8] =
 fn tell_said<W: Write>(writer: &mut W, told: &Told<'_>, earlier: u32) -> Result<(), WriteFault> {
     let number = Token::Number(u64::from(earlier));
     let from = match word_at(&told.words, 0) {
-        b"keys" | b"reservation" => 1,
+        b"keys" | b"reservation" | b"alone" => 1,
         b"start" | b"pending" => 2,
         _ => return put_filled(writer, SAID, &[number]),
     };
@@ -211,11 +225,22 @@ fn earlier_line(told: &Told<'_>) -> Option<u32> {
     let name = word_at(&told.words, 1);
     match word_at(&told.words, 0) {
         b"host" | b"guest" => declaration(told.above, name),
-        first @ (b"keys" | b"reservation" | b"generation" | b"resets") => {
+        first @ (b"keys" | b"reservation" | b"generation" | b"resets" | b"order") => {
             line_of(told.above, first, None)
         }
+        b"alone" => earlier_alone(told),
         first => line_of(told.above, first, Some(name)),
     }
+}
+
+// The line above that says it of one of the hosts on the line.
+fn earlier_alone(told: &Told<'_>) -> Option<u32> {
+    for word in told.words.iter().skip(1) {
+        if let Some(line) = line_of(told.above, b"alone", Some(word.text)) {
+            return Some(line);
+        }
+    }
+    None
 }
 
 // The first word that is a key or a word that stands further to the left.

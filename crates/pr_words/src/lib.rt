@@ -15,6 +15,7 @@ mod source_line;
 mod standing;
 mod tale;
 mod telling;
+mod unseen;
 mod wrapping;
 
 pub use command::{put_command, put_request};

@@ -4,9 +4,11 @@ use crate::command::put_command;
 use crate::item::put_item;
 use crate::reply::put_reply;
 use crate::saying::put_filled;
+use crate::sense::put_sense;
 use crate::standing::{name_of, put_end, put_over, put_unit};
-use crate::telling::{Departure, Instead, Telling};
+use crate::telling::{Departure, Instead, Note, Telling};
 use crate::wrapping::Wrapping;
+use pr_attention::Attention;
 use pr_audit::End;
 use pr_cdb::Status;
 use pr_output::{Token, WriteFault, put, put_spaced};
@@ -47,12 +49,38 @@ fn put_items<W: Write>(
                 &[Token::Text(name_of(nexuses, entry.host))],
             )?;
         }
+        if let Item::Sent(entry) = item {
+            put_unseen(writer, name_of(nexuses, entry.host), note)?;
+        }
         if let Some(at) = note.departure {
             put_departure(writer, nexuses, item, &telling.departures, at)?;
         }
         if let (Item::Sent(entry), Some(end)) = (item, note.end) {
             put_over(writer, name_of(nexuses, entry.host), end)?;
         }
+    }
+    Ok(())
+}
+
+// What the reply shows of what no script is told.
+fn put_unseen<W: Write>(writer: &mut W, name: &[u8], note: &Note) -> Result<(), WriteFault> {
+    for attention in Attention::ALL {
+        if !note.fetched.has(attention) {
+            continue;
+        }
+        put_filled(
+            writer,
+            b"  somebody else on the path of {} was told of ",
+            &[Token::Text(name)],
+        )?;
+        put_sense(writer, attention.sense())?;
+        put_filled(writer, b" before: {} is not\n", &[Token::Text(name)])?;
+    }
+    if note.is_early {
+        put(
+            writer,
+            b"  the disk reports that before it looks at the reservation, which forbids the command\n",
+        )?;
     }
     Ok(())
 }

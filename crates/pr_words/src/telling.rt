@@ -6,6 +6,8 @@ ghost use Rattle.pr_audit.specs.Auditors.{ActFor, world_at};
 ghost use Rattle.pr_words.specs.Tellings.{IsTold};
 
 use crate::adopting::adopt;
+use crate::unseen::{fetched_before, is_early};
+use pr_attention::Pending;
 use pr_audit::{AuditError, Auditor, End, audit, counts_of, refused};
 use pr_cdb::{Command, Reply, Status, decode, encode};
 use pr_roles::{Entry, How, Item, Nexus, Scenario, first_start, nexus_in, permits};
@@ -16,13 +18,19 @@ use std::alloc::{AllocError, Global};
 const MOST_ITEMS: usize = 66_536;
 
 /// What stands beside an item.
-#[derive(Clone, Copy, Debug, PartialEq, Eq)]
+#[derive(Drop)]
 pub struct Note {
     /// The line of the send that it is a command of.
     pub line: Option<u32>,
 
     /// It is a host's command that ended GOOD, which its role does not permit at that moment.
     pub is_out_of_role: bool,
+
+    /// What somebody else on the path of its sender was told of, so that the sender was not.
+    pub fetched: Pending,
+
+    /// It is a report that came before the unit looked at the reservation.
+    pub is_early: bool,
 
     /// Which of the departures it is, where it isn't legal.
     pub departure: Option<usize>,
@@ -37,6 +45,8 @@ impl Note {
         Note {
             line,
             is_out_of_role: false,
+            fetched: Pending::new(),
+            is_early: false,
             departure: None,
             end: None,
         }
@@ -180,8 +190,10 @@ fn pass_item(
     requires { ActFor (scenario_of scenario.now) (world_at auditor.old []) }
     ensures { ActFor (scenario_of scenario.now) (world_at auditor.new []) }
 {
-    let note = note_on(auditor, scenario, item);
+    let mut note = note_on(auditor, scenario, item);
+    let unit = auditor.unit().copy();
     if auditor.admits(scenario, before, item) {
+        add_unseen(&mut note, &unit, auditor, scenario, item);
         return Ok(note);
     }
     let departure = Some(departures.len());
@@ -194,6 +206,23 @@ fn pass_item(
         departure,
         ..Note::at(note.line)
     })
+}
+
+// Adds what the reply shows of what no script is told, from the unit as it was before.
+fn add_unseen(note: &mut Note, before: &Unit, auditor: &Auditor, scenario: &Scenario, item: &Item)
+    requires acts { ActFor (scenario_of scenario.now) (world_at auditor.now []) }
+    requires there { before.now.registry.hosts ≡ length (scenario_of scenario.now).nexuses }
+{
+    let Item::Sent(entry) = item else {
+        return;
+    };
+    if !is_declared(scenario, entry.host) {
+        return;
+    }
+    if nexus_in(scenario, entry.host).shared {
+        note.fetched = fetched_before(before, auditor.unit(), entry);
+    }
+    note.is_early = is_early(before, entry);
 }
 
 // How the script of its sender is over behind the item, if it is.

@@ -16,7 +16,7 @@ syntax match fenceComment /\%(^\|\s\)\@1<=#.*/ contains=@Spell
 syntax match fenceLine /^\s*[^ \t#]\@=/ nextgroup=fenceVersion,fenceDeclaration,fenceStatement,@fenceCommands
 
 syntax keyword fenceVersion contained fence nextgroup=fenceVersionOfText skipwhite
-syntax keyword fenceVersionOfText contained 1 2
+syntax keyword fenceVersionOfText contained 1 2 3
 
 syntax keyword fenceDeclaration contained keys nextgroup=fenceKeyOfList skipwhite
 syntax keyword fenceDeclaration contained host guest plan nextgroup=fenceName skipwhite
@@ -30,6 +30,9 @@ syntax keyword fenceDeclaration contained end
 " (version 2)
 syntax keyword fenceDeclaration contained busy full nextgroup=fenceNameOfCount skipwhite
 syntax keyword fenceDeclaration contained resets nextgroup=fenceNumber skipwhite
+" (version 3)
+syntax keyword fenceDeclaration contained alone nextgroup=fenceNameOfAlone skipwhite
+syntax keyword fenceDeclaration contained order nextgroup=fenceDeclarationOfOrder skipwhite
 
 syntax keyword fenceStatement contained send nextgroup=@fenceCommands skipwhite
 syntax keyword fenceStatement contained on nextgroup=fenceArm skipwhite
@@ -45,6 +48,8 @@ syntax match fenceNameOfCount contained /[a-z][a-z0-9-]\{,15}\>/ nextgroup=fence
 syntax match fenceNameOfRole contained /[a-z][a-z0-9-]\{,15}\>/ nextgroup=fenceClause skipwhite
 syntax match fenceNameOfScript contained /[a-z][a-z0-9-]\{,15}\>/ nextgroup=fenceDeclarationOfBudget skipwhite
 syntax keyword fenceDeclarationOfBudget contained budget nextgroup=fenceNumber skipwhite
+syntax match fenceNameOfAlone contained /[a-z][a-z0-9-]\{,15}\>/ nextgroup=fenceNameOfAlone skipwhite
+syntax keyword fenceDeclarationOfOrder contained conflict
 syntax match fenceWord contained /[a-z][a-z0-9-]\{,15}\>/
 
 " The alternatives of a start: registrations, attentions, reservations.

@@ -24,6 +24,7 @@ draft_seen x = record {
   pending = x.pending;
   busy = x.busy;
   full = x.full;
+  alone = x.alone;
   role = x.role.items;
   task = option_map task_seen x.task;
 }
@@ -41,6 +42,7 @@ declared_by b = record {
   reservations = option_map (λ v. v.items) b.reservations;
   generation = b.generation;
   resets = b.resets;
+  in_order = b.in_order;
   nexuses = map draft_seen b.nexuses.items;
   place = place_seen b.place;
 }

@@ -1,7 +1,5 @@
 -- What is wrong after the last line, as the reader finds it: what is missing, and then whether there is a start.
-use Rattle.std.specs.Prelude.{◌≡◌, ℕ, false, List, length, map, Option, Some, option_map, if◌then◌else◌, ◌==◌, Result, Ok, Err}
-use Rattle.pr_roles.specs.declared.parts.Nexus.{Nexus}
-use Rattle.pr_roles.specs.Scenarios.{is_shared_by}
+use Rattle.std.specs.Prelude.{ℕ, List, length, Option, Some, option_map, if◌then◌else◌, ◌==◌, Result, Ok, Err}
 use Rattle.pr_text.specs.declared.fault.ReadError.{ReadError}
 use Rattle.pr_text.specs.declared.fault.Which.TheVariants as which
 use Rattle.pr_text.specs.declared.fault.ReadError.TheVariants as fault
@@ -24,7 +22,3 @@ missing_fault n d = missing_at n d d.place
 
 abbrev pub start_result : Declared → Result Declared ReadError
 start_result d = if starts_somewhere d then Ok d else Err fault.EmptyStart
-
--- nobody else sends on the path of any of them
-abbrev pub AreAlone : List Nexus → Type 0
-AreAlone nexuses = (h : ℕ) → is_shared_by (map (λ n. n.shared) nexuses) h ≡ false

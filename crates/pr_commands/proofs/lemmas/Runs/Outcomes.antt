@@ -1,9 +1,10 @@
 -- A scenario that was run or refused, and what is written of it.
-use Rattle.pr_commands.proofs.Common.{◌≡◌, ℕ, ◌<◌, ◌≤◌, true, List, [], ◌∷◌, zero, suc, Option, Some, None, Ok, Err, refl, sym, ap, ◌∙◌, subst, arith, IfSome, is_err, map, slice_index_or, range_with_len, slice_get, Parts, Scenario, scenario_of, task, commands_by, IsWrittenAs, End, ending_of, name_of, names_in, names_of, Fault, Judgement}
+use Rattle.pr_commands.proofs.Common.{◌≡◌, ℕ, ◌<◌, ◌≤◌, true, List, [], ◌∷◌, zero, suc, Option, Some, None, Ok, Err, Result, refl, sym, ap, ◌∙◌, subst, arith, IfSome, is_err, map, slice_index_or, range_with_len, slice_get, Parts, Scenario, scenario_of, task, commands_by, IsWrittenAs, End, ending_of, name_of, names_in, names_of, Fault, Judgement}
 use Rattle.std.proofs.Common.{◌^◌}
 use Rattle.std.specs.Prelude.{length}
 use Rattle.std.specs.List.{list_all}
 use Rattle.std.specs.Option.{option_map_or}
+use Rattle.std.specs.Result.{IsErr, IsErrAnd}
 use Rattle.std.proofs.lemmas.Bool.{and_parts}
 use Rattle.pr_roles.specs.declared.parts.Nexus.{Nexus as NexusPart}
 use Rattle.pr_verify.specs.declared.verifying.Refused.{Refused}
@@ -102,3 +103,8 @@ pub fault_performed : (known : Option (List ℕ)) (j : Judgement) (v : Parts) (f
 fault_performed known j v f same judged is =
     let here = subst (λ j. IfSome known (λ text. IsWrittenAs text (scenario_of (judged_in j))) × Judged j) same judged in
     fault_in known (scenario_of v) f here.0 (shared_paths_are_no_safer (scenario_of v) here.1.0) is
+
+-- what is handed on as it is
+pub fault_handed_on : (known : Option (List ℕ)) (r : Result Performed Fault) (f : Fault) → IsErr r → IsErrAnd r (λ e. e ≡ f) → IsPerformed known (Err f) → IsPerformed known r
+fault_handed_on known (Ok performed) f failed same is = cc
+fault_handed_on known (Err e) f failed same is = subst (λ e. IsPerformed known (Err e)) (sym same) is

@@ -20,7 +20,7 @@ use Rattle.pr_lines.specs.WordTerms.{number, without_prefix, hexadecimal, name_o
 use Rattle.pr_lines.specs.CommandWords.{spelled_of, spelled_in}
 use Rattle.pr_lines.specs.Clauses.{clause_of, good_of, test_of}
 use Rattle.pr_lines.specs.Lookups.{lookup}
-use Rattle.pr_lines.specs.ScenarioLines.{StartReservation, nobody, single, everybody, ScenarioLine, keys_line, nexus_line, start_line, pending_line, refusals_line, reservation_line, generation_line, resets_line, role_line, script_line, plan_line, end_line, send_line, on_line, done_line, repeat_line, break_line, stop_line, command_line, fence_line, list_of, alternative_of, everybody_of, single_of, start_reservation_of, name_in, only_name, only_count, budget_in, parse_fence, parse_of_name, item_of, declares, states}
+use Rattle.pr_lines.specs.ScenarioLines.{StartReservation, nobody, single, everybody, ScenarioLine, keys_line, nexus_line, start_line, pending_line, refusals_line, reservation_line, generation_line, resets_line, alone_line, order_line, role_line, script_line, plan_line, end_line, send_line, on_line, done_line, repeat_line, break_line, stop_line, command_line, fence_line, list_of, alternative_of, everybody_of, single_of, start_reservation_of, name_in, only_name, only_count, budget_in, parse_fence, parse_of_name, item_of, declares, states}
 use Rattle.pr_lines.specs.Keywords.{keyword_of}
 use Rattle.pr_lines.specs.inside.Keywords.{parse_plain, parse_after, parse_with}
 use Rattle.pr_lines.proofs.lemmas.ScenarioLines.Words.{by_keyword}
@@ -40,6 +40,7 @@ is_item (declares (keys_line ks)) = list_all is_key ks
 is_item (declares (nexus_line guest name)) = is_name name
 is_item (declares (start_line name xs)) = not (length xs == 0)
 is_item (declares (reservation_line ws)) = not (length ws == 0) && list_all is_wanted ws
+is_item (declares (alone_line names)) = not (length names == 0) && list_all is_name names
 is_item (states (on_line t)) = has_sense_digit t
 is_item (states (stop_line word)) = is_name word
 is_item i = true
@@ -211,7 +212,8 @@ version_of word = lookup (map (λ row. (row.0.now, row.1)) VERSIONS) word
 version_sound : (w : List ℕ) → IfSome (version_of w) (λ v. is_version v ≡ true)
 version_sound w =
     cond_if (λ v. is_version v ≡ true) (bytes_eq w (codes "1")) (Some 1) _ (λ e. refl)
-    (λ e. cond_if (λ v. is_version v ≡ true) (bytes_eq w (codes "2")) (Some 2) None (λ f. refl) (λ f. tt))
+    (λ e. cond_if (λ v. is_version v ≡ true) (bytes_eq w (codes "2")) (Some 2) _ (λ f. refl)
+    (λ f. cond_if (λ v. is_version v ≡ true) (bytes_eq w (codes "3")) (Some 3) None (λ g. refl) (λ g. tt)))
 
 fence_sound : (ws : List (List ℕ)) → IfSome (parse_fence ws) Sound
 fence_sound ws = bind_if (λ _. Unit {0}) Sound (λ w. option_map (λ v. fence_line v) (version_of w)) (only ws) (any_if (only ws)) (λ w h. map_if (λ v. is_version v ≡ true) Sound (λ v. fence_line v) (version_of w) (version_sound w) (λ v i. i))
@@ -227,6 +229,7 @@ simply_sound keyword.Busy ws = refusals_sound refusal.Busy ws
 simply_sound keyword.Full ws = refusals_sound refusal.Full ws
 simply_sound keyword.Generation ws = map_if (λ _. Unit {0}) Sound (λ n. declares (generation_line n)) (option_and_then generation_of (only ws)) (any_if _) (λ x h. refl)
 simply_sound keyword.Resets ws = map_if (λ _. Unit {0}) Sound (λ n. declares (resets_line n)) (only_count ws) (any_if _) (λ x h. refl)
+simply_sound keyword.Order ws = bind_if (λ _. Unit {0}) Sound (λ word. cond (bytes_eq word (codes "conflict")) (Some (declares order_line)) None) (only ws) (any_if _) (λ word h. keep_if Sound (bytes_eq word (codes "conflict")) (declares order_line) (λ e. refl))
 simply_sound keyword.Role ws = bind_if (λ _. Unit {0}) Sound (λ r. option_map (λ clause. declares (role_line r.0 clause)) (clause_of r.1)) (name_in ws) (any_if _) (λ r h. map_if (λ _. Unit {0}) Sound (λ clause. declares (role_line r.0 clause)) (clause_of r.1) (any_if _) (λ x k. refl))
 simply_sound keyword.Script ws = bind_if (λ _. Unit {0}) Sound (λ r. option_map (λ budget. declares (script_line r.0 budget)) (budget_in r.1)) (name_in ws) (any_if _) (λ r h. map_if (λ _. Unit {0}) Sound (λ budget. declares (script_line r.0 budget)) (budget_in r.1) (any_if _) (λ x k. refl))
 simply_sound keyword.Plan ws = map_if (λ _. Unit {0}) Sound (λ name. declares (plan_line name)) (only_name ws) (any_if _) (λ x h. refl)
@@ -257,11 +260,18 @@ reservation_sound ws =
     (both_if (λ ys. not (length ys == 0) ≡ true) (λ ys. list_all is_wanted ys ≡ true) (list_of start_reservation_of ws) (listed_some start_reservation_of ws) (listed_all is_wanted start_reservation_of ws wanted_sound))
     (λ x k. and_from _ _ k.0 k.1)
 
+alone_sound_line : (ws : List (List ℕ)) → IfSome (option_map (λ names. declares (alone_line names)) (list_of name_of ws)) Sound
+alone_sound_line ws =
+    map_if (λ ys. (not (length ys == 0) ≡ true) × (list_all is_name ys ≡ true)) Sound (λ names. declares (alone_line names)) (list_of name_of ws)
+    (both_if (λ ys. not (length ys == 0) ≡ true) (λ ys. list_all is_name ys ≡ true) (list_of name_of ws) (listed_some name_of ws) (listed_all is_name name_of ws name_sound))
+    (λ x k. and_from _ _ k.0 k.1)
+
 after_sound : (k : Keyword) (ws : List (List ℕ)) → IfSome (parse_after k ws) Sound
 after_sound keyword.Keys ws = map_if (λ ys. list_all is_key ys ≡ true) Sound (λ keys. declares (keys_line keys)) (list_of key_of ws) (listed_all is_key key_of ws key_sound) (λ x h. h)
 after_sound keyword.Start ws = start_sound ws
 after_sound keyword.Pending ws = pending_sound ws
 after_sound keyword.Reservation ws = reservation_sound ws
+after_sound keyword.Alone ws = alone_sound_line ws
 after_sound k ws = simply_sound k ws
 
 said_sound : (o : Option Keyword) (w : List ℕ) (ws : List (List ℕ)) → IfSome (parse_with o w ws) Sound

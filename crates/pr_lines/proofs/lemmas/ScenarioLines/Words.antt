@@ -26,6 +26,8 @@ by_keyword w ws =
     with_keyword (bytes_eq w (codes "reservation")) keyword.Reservation _ w ws _ (
     with_keyword (bytes_eq w (codes "generation")) keyword.Generation _ w ws _ (
     with_keyword (bytes_eq w (codes "resets")) keyword.Resets _ w ws _ (
+    with_keyword (bytes_eq w (codes "alone")) keyword.Alone _ w ws _ (
+    with_keyword (bytes_eq w (codes "order")) keyword.Order _ w ws _ (
     with_keyword (bytes_eq w (codes "role")) keyword.Role _ w ws _ (
     with_keyword (bytes_eq w (codes "script")) keyword.Script _ w ws _ (
     with_keyword (bytes_eq w (codes "plan")) keyword.Plan _ w ws _ (
@@ -36,4 +38,4 @@ by_keyword w ws =
     with_keyword (bytes_eq w (codes "repeat")) keyword.Repeat _ w ws _ (
     with_keyword (bytes_eq w (codes "break")) keyword.Break _ w ws _ (
     with_keyword (bytes_eq w (codes "stop")) keyword.Stop _ w ws _ (
-    refl)))))))))))))))))))))
+    refl)))))))))))))))))))))))

@@ -1,6 +1,8 @@
--- What is wrong after the last line is what is missing, or else that there is no start.
-use Rattle.pr_text.proofs.Common.{◌≡◌, ℕ, Bool, true, false, cond, length, ◌==◌, Some, None, Ok, Err, Option, option_map, refl, option_map_or, Declared, Context, outside, and_then, unless, starts_somewhere, first_unscripted, end_placed, ReadError, missing_fault}
+-- What is wrong after the last line is what is missing, or else that there is no start; and on whose paths somebody else may send.
+use Rattle.pr_text.proofs.Common.{◌≡◌, ℕ, zero, suc, List, [], ◌∷◌, map, ap, ◌∙◌, slice_get, Declaration, Bool, true, false, cond, length, ◌==◌, Some, None, Ok, Err, Option, option_map, refl, option_map_or, Declared, Context, outside, and_then, unless, starts_somewhere, first_unscripted, end_placed, ReadError, missing_fault}
 use Rattle.pr_text.specs.declared.fault.ReadError.TheVariants as fault
+use Rattle.pr_roles.specs.Scenarios.{is_shared_by}
+use Rattle.pr_text.specs.Reading.{is_shared_path}
 use Rattle.pr_text.specs.inside.Endings.{missing_at, start_result}
 
 last : (b : Bool) (d : Declared) → unless (cond b None (Some fault.EmptyStart)) d ≡ cond b (Ok d) (Err fault.EmptyStart)
@@ -23,3 +25,13 @@ ended_at n d _ = refl
 
 pub ended_in_turn : (n : ℕ) (d : Declared) → end_placed n d ≡ and_then (unless (missing_fault n d) d) start_result
 ended_in_turn n d = ended_at n d d.place
+
+-- what is said of each path is so of the path with its number
+pub paths_of : (version : ℕ) (paths : List Bool) (xs : List Declaration) (h : ℕ) → paths ≡ map (is_shared_path version) xs
+    → is_shared_by paths h ≡ option_map_or (is_shared_path version) (slice_get xs h) false
+paths_of version paths xs h same = ap (λ l. is_shared_by l h) same ∙ at xs h
+  where
+    at : (ys : List Declaration) (k : ℕ) → is_shared_by (map (is_shared_path version) ys) k ≡ option_map_or (is_shared_path version) (slice_get ys k) false
+    at [] k = refl
+    at (y ∷ ys) zero = refl
+    at (y ∷ ys) (suc k) = at ys k

@@ -1,12 +1,18 @@
 -- What is written fits, and the first fault decides.
 use Rattle.pr_text.proofs.Common.{◌≡◌, ℕ, ◌+◌, Bool, true, false, cond, List, [], ◌∷◌, ◌++◌, length, is_some, Some, None, Ok, Err, Option, Result, sym, refl, ap, ◌∙◌, subst, lines, Fits, Scenario, Declared, nothing, and_then, unless, IsDeclaredBy, all_placed, starts_somewhere, end_placed, answer_of, ReadError, missing_fault, IsDated, IsSound}
+use Rattle.std.specs.Prelude.{nat_lt, not, ◌&&◌}
+use Rattle.std.specs.List.{slice_get}
+use Rattle.std.specs.Option.{option_map_or}
+use Rattle.pr_roles.specs.Laws.{NobodyShares}
 use Rattle.pr_roles.specs.Starts.{CanStart}
+use Rattle.pr_text.specs.Declarations.{Declaration}
+use Rattle.pr_text.specs.Reading.{is_shared_path}
 use Rattle.pr_roles.proofs.lemmas.Starts.Reservations.{starts_are_found}
 use Rattle.pr_text.specs.declared.fault.ReadError.TheVariants.{EmptyStart}
 use Rattle.pr_text.specs.Texts.{line_placed, answer_of_lines}
 use Rattle.pr_text.specs.inside.Endings.{start_result}
 use Rattle.pr_text.proofs.lemmas.Endings.Faults.{ended_in_turn}
-use Rattle.pr_text.specs.Laws.{WhatIsWrittenFits, FirstFaultDecides}
+use Rattle.pr_text.specs.Laws.{WhatIsWrittenFits, FirstFaultDecides, EarlierTextsShareNoPath}
 use Rattle.pr_text.proofs.lemmas.Texts.Readings.{start_same}
 use Rattle.pr_text.proofs.lemmas.Sound.FittingParts.{declared_fits}
 use Rattle.pr_text.proofs.lemmas.Sound.Texts.{passed, read_sound}
@@ -72,3 +78,17 @@ what_is_written_fits text s is =
     let kept : IsDeclaredBy f.declared s = subst (λ d. IsDeclaredBy d s) (sym well.same) is.kept in
     let fits = declared_fits (length (lines text)) f.declared s sound.0 sound.1 well.faultless kept in
     (fits, can_start f.declared s kept fits well.starting)
+
+-- ---- before version 3
+
+unshared : (version : ℕ) (o : Option Declaration) → nat_lt 2 version ≡ false → option_map_or (is_shared_path version) o false ≡ false
+unshared version None old = refl
+unshared version (Some x) old = ap (λ b. b && (not x.is_guest && not x.alone)) old
+
+earlier_alone : (d : Declared) (s : Scenario) → IsDeclaredBy d s → nat_lt 2 s.version ≡ false → NobodyShares s × (s.early ≡ false)
+earlier_alone d s kept old =
+    let before : nat_lt 2 d.version ≡ false = ap (nat_lt 2) (sym kept.version) ∙ old in
+    ((λ h. kept.paths h ∙ unshared d.version (slice_get d.nexuses h) before), kept.order ∙ ap (λ b. b && not d.in_order) before)
+
+pub earlier_texts_share_no_path : EarlierTextsShareNoPath
+earlier_texts_share_no_path text s is old = earlier_alone is.declared s is.kept old

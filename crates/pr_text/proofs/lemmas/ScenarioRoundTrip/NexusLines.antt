@@ -1,5 +1,5 @@
 -- The lines of one nexus have no fault.
-use Rattle.pr_text.proofs.Common.{◌≡◌, ℕ, suc, ◌+◌, ◌≤◌, Bool, true, false, cond, not, ◌&&◌, ◌||◌, List, [], ◌∷◌, ◌++◌, map, length, is_some, nat_lt, nat_le, ◌==◌, Some, None, Ok, Err, fold, filter, Option, Result, bytes_eq, sym, refl, ap, ◌∙◌, append_assoc, append-nil, arith, length-append, list_all, list_any, unwrap_or, and_parts, nat_tests, Command, Attention, Held, is_written, is_name, MOST_BUDGET, is_version, is_count, are_distinct, is_action, is_role, is_start, is_nexus, Nexus, Task, Scripted, Planned, MOST_CLAUSES, MOST_PLANNED, MOST_REFUSALS, Clause, ScenarioLine, declares, start_line, pending_line, refusals_line, role_line, script_line, plan_line, end_line, command_line, since, RefusalKind, and_from, leb-true, Declared, WrittenTask, scripted, planned, Declaration, OpenLines, Context, outside, in_script, in_plan, codes_of, count_in, and_then, with_count, with_task, begun_script, item_placed, task_written, body_lines, all_said, ReadError, number_of, item_standing, not-true, or_parts}
+use Rattle.pr_text.proofs.Common.{◌≡◌, ℕ, suc, ◌+◌, ◌≤◌, Bool, true, false, cond, not, ◌&&◌, ◌||◌, List, [], ◌∷◌, ◌++◌, map, length, is_some, nat_lt, nat_le, ◌==◌, Some, None, Ok, Err, fold, filter, Option, Result, bytes_eq, sym, refl, ap, ◌∙◌, append_assoc, append-nil, arith, length-append, list_all, list_any, unwrap_or, and_parts, nat_tests, Command, Attention, Held, is_written, is_name, MOST_BUDGET, is_version, is_count, are_distinct, is_action, is_role, is_start, is_nexus, Nexus, Task, Scripted, Planned, MOST_CLAUSES, MOST_PLANNED, MOST_REFUSALS, Clause, ScenarioLine, declares, start_line, pending_line, refusals_line, alone_line, role_line, script_line, plan_line, end_line, command_line, since, RefusalKind, and_from, leb-true, Declared, WrittenTask, scripted, planned, Declaration, OpenLines, Context, outside, in_script, in_plan, codes_of, count_in, and_then, with_count, with_task, begun_script, item_placed, task_written, body_lines, all_said, ReadError, number_of, item_standing, not-true, or_parts}
 use Rattle.std.specs.FinSet as set
 use Rattle.std.proofs.lemmas.Bool.{cond_both, or_from, not_from_false}
 use Rattle.std.proofs.Math.Bool.{and-false}
@@ -8,11 +8,12 @@ use Rattle.pr_attention.specs.Attentions.{Codes, code_of, is_attention, each_att
 use Rattle.pr_attention.specs.CodeSets.{no_code, AreAttentions}
 use Rattle.pr_attention.proofs.lemmas.Sets.{same_codes, contains-no_code, contains-insert_code}
 use Rattle.pr_script.specs.Grammar.{script_fits}
+use Rattle.pr_roles.specs.Worlds.{is_guest_task}
 use Rattle.pr_roles.specs.Fitting.{is_alternative, is_same_alternative, is_task, is_task_of}
 use Rattle.pr_lines.specs.declared.item.RefusalKind.TheVariants as refusal
 use Rattle.pr_lines.specs.CommandWords.{without_keys}
 use Rattle.pr_text.specs.ScriptRoundTrip.{Line, line, script_said}
-use Rattle.pr_text.specs.ScenarioRoundTrip.{attentions_in, pending_said, refusals_said, task_said, details_said}
+use Rattle.pr_text.specs.ScenarioRoundTrip.{attentions_in, pending_said, refusals_said, task_said, alone_said, details_said}
 use Rattle.pr_text.proofs.lemmas.ScriptRoundTrip.Lines.{goes, reread}
 use Rattle.pr_text.proofs.lemmas.Declarations.Names.{is_taken, itself, number_there, element_there}
 use Rattle.pr_text.proofs.lemmas.LineFaults.Order.{in_version}
@@ -116,8 +117,7 @@ pending_same codes are = at (attentions_in codes) (attentions_are codes are)
 -- ---- one nexus among others
 
 abbrev pub is_planned : Task → Bool
-is_planned (Scripted script budget) = false
-is_planned (Planned commands) = true
+is_planned t = is_guest_task (Some t)
 
 -- how often a refusal or a reset may come, if a line says it
 abbrev pub count_said : ℕ → Option ℕ
@@ -131,11 +131,11 @@ count_same count = by (count == 0) refl
     by false is = rw is refl
 
 abbrev pub placed : ℕ → Option (List ℕ) → Option (List (Option Held)) → Option ℕ → Option ℕ → List Declaration → Context → Declared
-placed version keys vs g rs xs p = record { version = version; keys = keys; reservations = vs; generation = g; resets = rs; nexuses = xs; place = p }
+placed version keys vs g rs xs p = record { version = version; keys = keys; reservations = vs; generation = g; resets = rs; in_order = false; nexuses = xs; place = p }
 
 -- a nexus of which so much is said; and one of which nothing is said behind what may be pending
 abbrev pub staged : ℕ → List ℕ → Bool → Option (List (Option ℕ)) → Option Codes → Option ℕ → Option ℕ → List Clause → Option WrittenTask → Declaration
-staged n name guest s p b f r t = record { name = name; line = n; is_guest = guest; start = s; pending = p; busy = b; full = f; role = r; task = t }
+staged n name guest s p b f r t = record { name = name; line = n; is_guest = guest; start = s; pending = p; busy = b; full = f; alone = false; role = r; task = t }
 
 abbrev pub early : ℕ → List ℕ → Bool → Option (List (Option ℕ)) → Option Codes → Declaration
 early n name guest s p = staged n name guest s p None None [] None
@@ -311,6 +311,18 @@ module _ (n version : ℕ) (dated : is_version version ≡ true) (keys : Option 
       (said_on (map (λ c. line n (command_line (without_keys c))) commands) (line n end_line ∷ []) _ (with x (in_plan (length before) commands)) _
       (commands_go x (length before) [] commands parts.1 (let few_commands = leb-true (length commands) MOST_PLANNED parts.0 in omega arith))
       (said_first n end_line [] _ _ _ old (plan_ends x commands) refl))
+
+  -- ---- nobody else on the path
+
+  alone_line_goes : (x : Declaration) → bytes_eq x.name name ≡ true → x.is_guest ≡ false → x.alone ≡ false
+      → item_standing n (declares (alone_line (name ∷ []))) (with x outside) ≡ Ok (with (record x { alone = true }) outside)
+  unfolding item_standing
+  alone_line_goes x it host new = rw (number x it, element_there before x after, set-append_seam before x after (record x { alone = true }), host, new) refl
+
+  pub alone_goes : (x : Declaration) (b : Bool) → bytes_eq x.name name ≡ true → (b ≡ true → (x.is_guest ≡ false) × (nat_lt version 3 ≡ false)) → x.alone ≡ false
+      → all_said (alone_said n name b) (with x outside) ≡ Ok (with (record x { alone = b }) outside)
+  alone_goes x true it may new = said_first n (declares (alone_line (name ∷ []))) [] _ (with (record x { alone = true }) outside) _ (may refl).1 (alone_line_goes x it (may refl).0 new) refl
+  alone_goes x false it may new = ap (λ a. Ok (with (record x { alone = a }) outside)) new
 
 -- ---- all of them
 

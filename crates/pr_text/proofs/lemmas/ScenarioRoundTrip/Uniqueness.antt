@@ -89,7 +89,7 @@ scenario_same s t v a b c r f o d = λ i. record { version = v i; keys = a i; re
 declared_same : (d : Declared) (s t : Scenario) → IsDeclaredBy d s → IsDeclaredBy d t → s ≡ t
 declared_same d s t p q =
     scenario_same s t (p.version ∙ sym q.version) (p.keys ∙ sym q.keys) (p.reservations ∙ sym q.reservations) (p.generation ∙ sym q.generation) (p.resets ∙ sym q.resets)
-    (λ h. p.alone h ∙ sym (q.alone h)) (p.order ∙ sym q.order) (nexuses_same s.nexuses t.nexuses (p.nexuses ∙ sym q.nexuses))
+    (λ h. p.paths h ∙ sym (q.paths h)) (p.order ∙ sym q.order) (nexuses_same s.nexuses t.nexuses (p.nexuses ∙ sym q.nexuses))
 
 along : (d e : Declared) (s t : Scenario) → d ≡ e → IsDeclaredBy d s → IsDeclaredBy e t → s ≡ t
 along d e s t same p q = declared_same d s t p (subst (λ x. IsDeclaredBy x t) (sym same) q)

@@ -1,5 +1,5 @@
 -- What is declared fits.
-use Rattle.pr_text.proofs.Common.{◌≡◌, ℕ, true, not, ◌&&◌, List, [], ◌∷◌, map, length, nat_le, ◌==◌, Some, None, Option, sym, refl, ap, ◌∙◌, subst, list_all, unwrap_or, and_parts, is_name, Fits, is_version, is_count, are_resets, most_declared, is_role, is_start, is_nexus, Scenario, Nexus, Task, Scripted, Planned, and_from, Declared, WrittenTask, scripted, planned, Declaration, Context, before_all, outside, in_script, in_plan, declared_keys, nexus_written, nexus_declared, IsDeclaredBy, task_written, body_lines, missing_fault, IsDated, IsTask, IsDeclaration, AreDeclarations, IsSound}
+use Rattle.pr_text.proofs.Common.{◌≡◌, ℕ, Bool, true, false, not, ◌&&◌, ◌||◌, nat_lt, List, [], ◌∷◌, map, length, nat_le, ◌==◌, Some, None, Option, sym, refl, ap, ◌∙◌, subst, list_all, unwrap_or, and_parts, is_name, Fits, is_version, is_count, are_resets, most_declared, is_role, is_start, is_nexus, Scenario, Nexus, Task, Scripted, Planned, and_from, Declared, WrittenTask, scripted, planned, Declaration, Context, before_all, outside, in_script, in_plan, declared_keys, nexus_written, nexus_declared, IsDeclaredBy, task_written, body_lines, missing_fault, IsDated, IsTask, IsDeclaration, AreDeclarations, IsSound}
 use Rattle.std.proofs.lemmas.Bool.{not_from_false}
 use Rattle.std.proofs.lemmas.List.{length-map}
 use Rattle.std.proofs.lemmas.Simd.{map-map}
@@ -63,6 +63,12 @@ each_has v (n ∷ ns) (x ∷ xs) e h =
     let parts = and_parts (is_declared_of v x) _ h in
     and_from _ _ (nexus_has v n x (head_same _ _ _ _ e) parts.0) (each_has v ns xs (tail_same _ _ _ _ e) parts.1)
 
+-- only from version 3 on the disk may report an attention first
+order_kept : (new b : Bool) → (not (new && b) || new) ≡ true
+order_kept true true = refl
+order_kept true false = refl
+order_kept false b = refl
+
 -- ---- the whole
 
 some_nexus : (n : ℕ) (d : Declared) (p : Context) → missing_at n d p ≡ None → not (length d.nexuses == 0) ≡ true
@@ -82,7 +88,7 @@ declared_fits n d s sound dated faultless kept =
       version = ap is_version kept.version ∙ dated.version;
       dated = ap (λ v. are_of v s.nexuses) kept.version ∙ each_has d.version s.nexuses d.nexuses kept.nexuses dated.each;
       resets = ap (λ v. are_resets v s.resets) kept.version ∙ (ap (are_resets d.version) kept.resets ∙ dated.resets);
-      order = ap (is_order s.version) kept.order;
+      order = ap (λ v. is_order v s.early) kept.version ∙ (ap (is_order d.version) kept.order ∙ order_kept (nat_lt 2 d.version) (not d.in_order));
       keys = rw keys sound.keys;
       reservations = rw (kept.reservations, long) sound.reservations;
       nexuses = rw (long, named, keys) (

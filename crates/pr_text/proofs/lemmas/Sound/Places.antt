@@ -1,14 +1,14 @@
 -- What is declared stays sound with one line more.
-use Rattle.pr_text.proofs.Common.{◌≡◌, ℕ, zero, suc, ◌+◌, true, false, cond, not, ◌&&◌, List, [], ◌∷◌, ◌++◌, map, length, is_some, nat_le, ◌==◌, slice_set, Some, None, Ok, Option, sym, refl, ap, ◌∙◌, subst, arith, list_all, slice_get, and_parts, Attention, is_written, is_name, MOST_BUDGET, is_action, is_role, MOST_CLAUSES, MOST_PLANNED, Clause, states, ScenarioLine, DeclaringLine, fence_line, declares, nexus_line, start_line, pending_line, refusals_line, resets_line, role_line, script_line, plan_line, end_line, command_line, keys_line, reservation_line, generation_line, RefusalKind, ParsedCommand, is_item, and_from, Declared, WrittenTask, scripted, planned, Declaration, Context, outside, in_script, in_plan, codes_of, declared_keys, number_of, with_count, with_task, begun_script, item_placed, IsTask, IsDeclaration, AreDeclarations, IsSound, IsPlace, le-leb, not-false, or_parts, StatementLine, option_map_or, with_statement_line, since, nat_lt, Bool}
+use Rattle.pr_text.proofs.Common.{◌≡◌, ℕ, zero, suc, ◌+◌, true, false, cond, not, ◌&&◌, List, [], ◌∷◌, ◌++◌, map, length, is_some, nat_le, ◌==◌, slice_set, Some, None, Ok, Option, sym, refl, ap, ◌∙◌, subst, arith, list_all, slice_get, and_parts, Attention, is_written, is_name, MOST_BUDGET, is_action, is_role, MOST_CLAUSES, MOST_PLANNED, Clause, states, ScenarioLine, DeclaringLine, fence_line, declares, nexus_line, start_line, pending_line, refusals_line, resets_line, alone_line, order_line, role_line, script_line, plan_line, end_line, command_line, keys_line, reservation_line, generation_line, RefusalKind, ParsedCommand, is_item, and_from, Declared, WrittenTask, scripted, planned, Declaration, Context, outside, in_script, in_plan, codes_of, declared_keys, number_of, with_count, with_task, begun_script, item_placed, IsTask, IsDeclaration, AreDeclarations, IsSound, IsPlace, le-leb, not-false, or_parts, StatementLine, option_map_or, with_statement_line, since, nat_lt, Bool}
 use Rattle.std.proofs.lemmas.Bool.{leb-false}
 use Rattle.std.proofs.lemmas.List.{length-set, length_push}
 use Rattle.pr_lines.specs.declared.item.RefusalKind.TheVariants as refusal
 use Rattle.pr_text.specs.declared.fault.Which.TheVariants as which
 use Rattle.pr_text.specs.declared.fault.ReadError.TheVariants as fault
 use Rattle.pr_text.specs.LineFaults.{command_fault, declaring_fault, fault_at, first_fault, keys_undeclared, names_unknown, past_limit, says_again, standing_fault, statement_fault}
-use Rattle.pr_text.specs.NextLine.{with_declared, with_line, with_named}
+use Rattle.pr_text.specs.NextLine.{with_alone, with_declared, with_line, with_named, with_nexus}
 use Rattle.pr_text.specs.Standing.{by_place, of_plan, of_script}
-use Rattle.std.specs.Prelude.{is_none}
+use Rattle.std.specs.Prelude.{is_none, fold}
 use Rattle.pr_text.specs.Declaring.{holds_of, is_spelled, nexus_named}
 use Rattle.pr_text.specs.inside.Sound.{AreBegun}
 use Rattle.pr_text.proofs.lemmas.Sound.Scripts.{Faultless, all_push, faultless, passes, script_sound, skips, stands_outside}
@@ -144,15 +144,37 @@ role_sound n name clause d at sound h =
     let more = fits_more MOST_CLAUSES (λ c. is_action keys c.action) x.role clause role.0 (not-false _ b.declared) short in
     (refl, record { described = and_from _ _ parts.0 (and_from _ _ more role.1); task = was.task }))
 
--- a line of something else than nexuses and keys
-aside : (n : ℕ) (d : Declared) (g rs : Option ℕ) → d.place ≡ outside → IsSound n d → IsSound (n + 1) (record d { generation = g; resets = rs })
-aside n d g rs at sound = record {
+-- a line of something else than nexuses and keys, on whatever line it stands
+aside : (n m : ℕ) (d : Declared) (g rs : Option ℕ) (in_order : Bool) → d.place ≡ outside → IsSound n d → IsSound m (record d { generation = g; resets = rs; in_order = in_order })
+aside n m d g rs in_order at sound = record {
   keys = sound.keys;
   reservations = sound.reservations;
   apart = sound.apart;
   each = sound.each;
-  place = subst (IsPlace (declared_keys d) (n + 1)) (sym at) tt;
+  place = subst (IsPlace (declared_keys d) m) (sym at) tt;
 }
+
+-- nobody else on the paths of some
+abbrev as_alone : Declaration → Declaration
+as_alone x = record x { alone = true }
+
+one_alone : (n : ℕ) (d : Declared) (h : ℕ) (o : Option Declaration) → slice_get d.nexuses h ≡ o → d.place ≡ outside → IsSound n d → IsSound n (with_nexus d h as_alone)
+one_alone n d h None there at sound = rw there sound
+one_alone n d h (Some x) there at sound =
+    let was = declaration_at (declared_keys d) d.nexuses h x there sound.each in
+    let e = record d { nexuses = slice_set d.nexuses h (as_alone x) } in
+    let place = subst (IsPlace (declared_keys d) (n + 1)) (sym at) tt in
+    let next = changed n d h x (as_alone x) d.place sound there refl (record { described = was.described; task = was.task }) place in
+    rw there (aside (n + 1) n e d.generation d.resets d.in_order at next)
+
+named_alone : (n : ℕ) (d : Declared) (o : Option ℕ) → d.place ≡ outside → IsSound n d
+    → IsSound n (option_map_or (λ h. with_nexus d h as_alone) o d) × ((option_map_or (λ h. with_nexus d h as_alone) o d).place ≡ outside)
+named_alone n d None at sound = (sound, at)
+named_alone n d (Some h) at sound = (one_alone n d h (slice_get d.nexuses h) refl at sound, at)
+
+alone_sound : (n : ℕ) (names : List (List ℕ)) (d : Declared) → d.place ≡ outside → IsSound n d → IsSound (n + 1) (fold with_alone d names)
+alone_sound n [] d at sound = aside n (n + 1) d d.generation d.resets d.in_order at sound
+alone_sound n (name ∷ names) d at sound = let one = named_alone n d (number_of d.nexuses name) at sound in alone_sound n names (with_alone d name) one.1 one.0
 
 begun_sound : (keys : List ℕ) (n h budget : ℕ) → (nat_le 1 budget && nat_le budget MOST_BUDGET) ≡ true → AreBegun keys n (begun_script h budget)
 begun_sound keys n h budget room = record { standing = refl; reaching = refl; counted = refl; short = refl; rising = refl; passed = refl; budget = room }
@@ -177,8 +199,10 @@ declared_sound n (start_line name xs) d at sound s h = start_sound n name xs d a
 declared_sound n (pending_line name xs) d at sound s h = pending_sound n name xs d at sound h
 declared_sound n (refusals_line r name count) d at sound s h = refusals_sound n r name count d at sound h
 declared_sound n (reservation_line ws) d at sound s h = let b = clean (n + 1) (reservation_line ws) d h in reservation_sound n ws d at s sound b.known b.once
-declared_sound n (generation_line g) d at sound s h = aside n d (Some g) d.resets at sound
-declared_sound n (resets_line count) d at sound s h = aside n d d.generation (Some count) at sound
+declared_sound n (generation_line g) d at sound s h = aside n (n + 1) d (Some g) d.resets d.in_order at sound
+declared_sound n (resets_line count) d at sound s h = aside n (n + 1) d d.generation (Some count) d.in_order at sound
+declared_sound n (alone_line names) d at sound s h = alone_sound n names d at sound
+declared_sound n order_line d at sound s h = aside n (n + 1) d d.generation d.resets true at sound
 declared_sound n (role_line name clause) d at sound s h = role_sound n name clause d at sound h
 declared_sound n (script_line name budget) d at sound s h = script_line_sound n name budget d sound h
 declared_sound n (plan_line name) d at sound s h = plan_line_sound n name d sound h

@@ -1,14 +1,15 @@
 -- What is declared with one line more is what the version has.
-use Rattle.pr_text.proofs.Common.{◌≡◌, ℕ, zero, suc, ◌+◌, Bool, true, false, not, ◌&&◌, List, [], ◌∷◌, ◌++◌, length, nat_lt, nat_le, slice_set, Some, None, Ok, Option, sym, refl, ap, ◌∙◌, subst, arith, list_all, slice_get, option_map_or, unwrap_or, and_parts, is_count, are_resets, most_declared, MOST_REFUSALS, MOST_RESETS, states, ScenarioLine, DeclaringLine, StatementLine, fence_line, declares, nexus_line, start_line, pending_line, refusals_line, resets_line, role_line, script_line, plan_line, end_line, send_line, on_line, done_line, repeat_line, break_line, stop_line, command_line, since, RefusalKind, ParsedCommand, is_item, and_from, Declared, WrittenTask, scripted, planned, Declaration, OpenLines, Context, before_all, outside, in_script, in_plan, codes_of, number_of, with_count, with_task, begun_script, with_statement_line, item_placed, arm_on, block_done, send_at, repeat_of, break_out, stop_with, is_line_of, IsDated, le-leb, not-false}
+use Rattle.pr_text.proofs.Common.{◌≡◌, ℕ, zero, suc, ◌+◌, Bool, true, false, not, ◌&&◌, List, [], ◌∷◌, ◌++◌, length, nat_lt, nat_le, slice_set, Some, None, Ok, Option, sym, refl, ap, ◌∙◌, subst, arith, list_all, slice_get, option_map_or, unwrap_or, and_parts, is_count, are_resets, most_declared, MOST_REFUSALS, MOST_RESETS, states, ScenarioLine, DeclaringLine, StatementLine, fence_line, declares, nexus_line, start_line, pending_line, refusals_line, resets_line, alone_line, role_line, script_line, plan_line, end_line, send_line, on_line, done_line, repeat_line, break_line, stop_line, command_line, since, RefusalKind, ParsedCommand, is_item, and_from, Declared, WrittenTask, scripted, planned, Declaration, OpenLines, Context, before_all, outside, in_script, in_plan, codes_of, number_of, with_count, with_task, begun_script, with_statement_line, item_placed, arm_on, block_done, send_at, repeat_of, break_out, stop_with, is_line_of, IsDated, le-leb, not-false}
 use Rattle.std.proofs.lemmas.Bool.{leb-false}
 use Rattle.std.proofs.lemmas.List.{length-set, length_push}
+use Rattle.std.specs.Prelude.{fold}
 use Rattle.pr_lines.specs.declared.item.RefusalKind.TheVariants as refusal
 use Rattle.pr_lines.specs.Versions.{declaring_since, statement_since}
 use Rattle.pr_script.specs.Versions.{since as test_since}
 use Rattle.pr_text.specs.Standing.{by_place, is_before_all, of_script, of_plan}
 use Rattle.pr_text.specs.declared.fault.ReadError.TheVariants as fault
 use Rattle.pr_text.specs.LineFaults.{past_limit, names_unknown, keys_undeclared, says_again, declaring_fault, standing_fault, fault_at}
-use Rattle.pr_text.specs.NextLine.{with_nexus, with_declared, with_line}
+use Rattle.pr_text.specs.NextLine.{with_nexus, with_alone, with_declared, with_line}
 use Rattle.pr_text.specs.inside.Sound.{is_written_of, is_declared_of, IsPlaceOf}
 use Rattle.pr_text.proofs.lemmas.Sound.Scripts.{all_push, faultless, passes, skips, stands_outside}
 use Rattle.pr_text.proofs.lemmas.ScriptRoundTrip.Versions.{by_has, count_kept, resets_kept}
@@ -85,6 +86,17 @@ new_dated d x is room at dated = record {
   place = subst (IsPlaceOf d.version d.resets (d.nexuses ++ x ∷ [])) (sym at) tt;
 }
 
+place_kept : (d : Declared) (f : Declaration → Declaration) (o : Option ℕ) → d.place ≡ outside → (option_map_or (λ h. with_nexus d h f) o d).place ≡ outside
+place_kept d f None at = at
+place_kept d f (Some h) at = at
+
+alone_dated : (names : List (List ℕ)) (d : Declared) → d.place ≡ outside → IsDated d → IsDated (fold with_alone d names)
+alone_dated [] d at dated = dated
+alone_dated (name ∷ names) d at dated =
+    let o = number_of d.nexuses name in
+    let as_alone = λ (x : Declaration). record x { alone = true } in
+    alone_dated names (with_alone d name) (place_kept d as_alone o at) (named_dated d as_alone o dated at (λ x h. h))
+
 declared_dated : (n : ℕ) (l : DeclaringLine) (d : Declared) → d.place ≡ outside → nat_lt d.version (declaring_since l) ≡ false → past_limit d l ≡ None → IsDated d → IsDated (with_declared n d l)
 declared_dated n (nexus_line guest name) d at has few dated =
     new_dated d _ refl (skips (nat_le (most_declared d.version) (length d.nexuses)) _ _ few).0 at dated
@@ -103,6 +115,7 @@ declared_dated n (resets_line count) d at has few dated =
       each = dated.each;
       place = subst (IsPlaceOf d.version (Some count) d.nexuses) (sym at) tt;
     }
+declared_dated n (alone_line names) d at has few dated = alone_dated names d at dated
 declared_dated n (role_line name clause) d at has few dated = named_dated d (λ x. record x { role = x.role ++ clause ∷ [] }) (number_of d.nexuses name) dated at (λ x h. h)
 declared_dated n (script_line name budget) d at has few dated = opened d (λ h. in_script (begun_script h budget)) (number_of d.nexuses name) (λ h. refl) dated
 declared_dated n (plan_line name) d at has few dated = opened d (λ h. in_plan h []) (number_of d.nexuses name) (λ h. tt) dated
