@@ -84,9 +84,11 @@ def why_wrong(search, facts, said, steps_of):
     least = fewest(search, facts)
     lines = said.stdout.splitlines()
     if least is None:
+        # (where paths are shared the program's worlds are others, since what may be pending is one world there)
+        worlds = lines[0].split()[-1] if lines and any(search.shared) else len(search.seen)
         unmet = [f"unmet {word_of(fact)}" for fact in facts if fewest(search, [fact]) is None]
-        is_right = (lines, said.returncode) == ([f"never {len(search.seen)}", *unmet], 0)
-        return None if is_right else f"it has to say never {len(search.seen)} {unmet}"
+        is_right = (lines, said.returncode) == ([f"never {worlds}", *unmet], 0)
+        return None if is_right else f"it has to say never {worlds} {unmet}"
     head = ["fence-witness 1", f"at {' '.join(map(word_of, facts))} after {least}"]
     if (lines[:2], said.returncode) != (head, 1):
         return f"it has to say {head[1]}"
