@@ -215,14 +215,14 @@ function write_all(    it, at, name) {
 }
 
 NR == 1 {
-    if ($0 !~ /^fence-trace [12]$/) stop("the first line of a trace is `fence-trace 1` or `fence-trace 2`")
+    if ($0 !~ /^fence-trace [123]$/) stop("the first line of a trace is `fence-trace 1`, `fence-trace 2` or `fence-trace 3`")
     version = $2
     next
 }
 /^(unit|host|guest)/ { is_end = 1 }
 is_end { next }
 {
-    if ($1 != items + 1 || !((NF == 2 && $2 == "reset" && version == 2) || (NF == 7 && is_name($2)))) stop("not item " items + 1 " of a trace")
+    if ($1 != items + 1 || !((NF == 2 && $2 == "reset" && version >= 2) || (NF == 7 && is_name($2)))) stop("not item " items + 1 " of a trace")
     items++
     if (NF == 2) { resets++; next }
     name_at[items] = $2
