@@ -43,7 +43,7 @@ pub struct Nexus {
 /// What a scenario declares. Nexuses are numbered from 0 in the order of their declaration.
 #[derive(Drop)]
 pub struct Parts {
-    /// That of its text: 1, 2 or 3. No text of version 3 is read yet.
+    /// That of its text: 1, 2 or 3.
     pub version: u8,
     pub keys: Vec<u64>,
     /// The reservations that there may be at the start, or none.
