@@ -23,8 +23,8 @@ use std::io::{Read, Write};
 /// `fence audit`: reads a scenario and then a trace, and writes whether the history of the trace is a legal one of
 /// the scenario from its first start, or the place of the first item that is not.
 ///
-/// Of a text and a trace whose bytes the contract knows at most 65,537 and 33,662,017 are taken, from version 2 on 68,274,217; none of
-/// the trace where the text is at fault. A fault is told in one line on `errors`, whose own faults change nothing.
+/// Of a text and a trace whose bytes the contract knows at most 65,537 and 33,662,017 are taken, from version 2 on 68,274,217; none
+/// of the trace where the text is at fault. A fault is told in one line on `errors`, whose own faults change nothing.
 pub fn do_audit<R: Read, T: Read, W: Write, E: Write>(
     alloc: Global,
     reader: &mut R,

@@ -26,7 +26,8 @@ pub const MOST_STEPS: usize = 4_096;
 ///
 /// No step, or more than 4,096, is a usage fault before the text is read; a step that names no nexus is
 /// one after it. From version 2 on `a:busy` and `a:full` are steps of `a`, whose command is refused where the text has a
-/// refusal left, and `:reset` is a reset of the unit, passed over where the text has none left. Of a text whose bytes the
+/// refusal left, and `:reset` is a reset of the unit, passed over where the text has none left. From version 3 on `a:early` is a
+/// step of `a` to which the unit reports an attention before it looks at the reservation, where it may. Of a text whose bytes the
 /// contract knows at most 65,537 are taken. A fault is told in one line on `errors`, whose own faults change nothing.
 pub fn do_replay<R: Read, W: Write, E: Write>(
     alloc: Global,

@@ -8,7 +8,8 @@ use pr_cdb::{Command, Request, Sense, decode, decode_sense};
 use pr_roles::Entry;
 use pr_unit::Unit;
 
-/// What was pending for the sender before its command, and was gone when the unit answered that, since somebody else was told of it.
+/// What was pending for the sender before its command, and was gone when the unit answered that, since somebody else was told
+/// of it.
 pub(crate) fn fetched_before(before: &Unit, after: &Unit, entry: &Entry) -> Pending
     requires before { entry.now.host < before.now.registry.hosts }
     requires after { entry.now.host < after.now.registry.hosts }
