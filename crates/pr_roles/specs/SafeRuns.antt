@@ -1,6 +1,6 @@
 -- Agrees with docs/VERDICTS.md, '`accepted`'.
--- What safety promises of the next event, and of a scenario on whose paths nobody else looks at the disk.
-use Rattle.std.specs.Prelude.{◌≡◌, ℕ, true, false, IsTrue, List, [], ◌∷◌, ◌++◌}
+-- What safety promises of the next event, and of the same scenario with fewer premises.
+use Rattle.std.specs.Prelude.{◌≡◌, ℕ, true, false, nat_lt, IsTrue, List, [], ◌∷◌, ◌++◌, length}
 use Rattle.pr_cdb.specs.declared.wire.Request.TheVariants.{Plain}
 use Rattle.pr_unit.specs.UnitStates.{UnitState}
 use Rattle.pr_unit.specs.Replies.{is_good}
@@ -31,3 +31,12 @@ SafeSendsAreFine =
 -- who is safe where somebody else may look at the disk by each path is safe as the scenario has it
 abbrev pub SharedPathsAreNoSafer : Type 0
 SharedPathsAreNoSafer = (s : Scenario) → IsSafe (on_shared_paths s) → IsSafe s
+
+-- The same scenario as one of version 3, without two premises: somebody else may send on the path of each nexus, and the disk may
+-- report an attention before it looks at the reservation.
+abbrev pub without_premises : Scenario → Scenario
+without_premises s = record s { version = 3; shared = λ h. nat_lt h (length s.nexuses); early = true }
+
+-- who is safe so is safe where the disk looks at the reservation first, or as early as the scenario has it
+abbrev pub FewerPremisesAreNoSafer : Type 0
+FewerPremisesAreNoSafer = (s : Scenario) → IsSafe (without_premises s) → IsSafe (on_shared_paths s)

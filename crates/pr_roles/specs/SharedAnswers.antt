@@ -1,6 +1,6 @@
 -- Agrees with docs/MODEL.md, 'Worlds, events and runs'.
 -- Answers to a nexus on whose path somebody else may have been told of what was pending for it.
-use Rattle.std.specs.Prelude.{ℕ, Bool, true, false, IsTrue, List}
+use Rattle.std.specs.Prelude.{ℕ, ◌<◌, Bool, true, false, IsTrue, List, length}
 use Rattle.pr_cdb.specs.declared.reply.Reply.{Reply}
 use Rattle.pr_cdb.specs.declared.wire.Request.{Request}
 use Rattle.pr_unit.specs.UnitStates.{UnitState, IsWellFormed}
@@ -18,5 +18,5 @@ AnswersOn false k u h q r v = Answers k u h q r v
 
 -- On a shared path fetches lead to each state in which no more is pending for its nexus.
 abbrev pub FetchesReachAll : Type 0
-FetchesReachAll = (s : Scenario) (w : World) (h : ℕ) (u : UnitState) → IsTrue (s.shared h) → IsWellFormed w.unit → IsQuiet w.unit h u
+FetchesReachAll = (s : Scenario) (w : World) (h : ℕ) (u : UnitState) → h < length s.nexuses → IsTrue (s.shared h) → IsWellFormed w.unit → IsQuiet w.unit h u
     → (es : List Event) × Run s w es (record w { unit = u })

@@ -2,7 +2,7 @@
 -- A logical unit with the scripts that drive it, and what may happen to them. One event is one command of one
 -- nexus: it is executed and answered, and a host's script takes the reply. Or it is a reset of the unit, or somebody else
 -- is told of what is pending for a host.
-use Rattle.std.specs.Prelude.{◌≡◌, ℕ, ◌≤◌, ◌==◌, Bool, true, false, nat_lt, IsTrue, List, [], ◌∷◌, ◌++◌, length, Option, Some, None, map, slice_set, Ok}
+use Rattle.std.specs.Prelude.{◌≡◌, ℕ, ◌<◌, ◌≤◌, ◌==◌, Bool, true, false, nat_lt, IsTrue, List, [], ◌∷◌, ◌++◌, length, Option, Some, None, map, slice_set, Ok}
 use Rattle.std.specs.List.{slice_get, count_by}
 use Rattle.std.specs.Option.{option_map_or}
 use Rattle.pr_cdb.specs.declared.codes.TheConstants.{MOST_CDB_LENGTH, PARAMETER_LIST_LENGTH}
@@ -137,6 +137,7 @@ pub record IsReset (s : Scenario) (w v : World) : Type 0 where
 
 -- Any attention of a nexus whose path is shared may be fetched at any time, as often as one is pending.
 pub record IsFetched (s : Scenario) (w : World) (h code : ℕ) (v : World) : Type 0 where
+  pub there : h < length s.nexuses
   pub shares : IsTrue (s.shared h)
   pub pending : IsTrue (is_pending w.unit h code)
   pub world : v ≡ after_fetch w h code

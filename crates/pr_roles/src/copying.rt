@@ -1,6 +1,7 @@
 //! Equal parts, and whether parts are equal.
 
-ghost use Rattle.std.specs.Prelude.{◌≡◌, ◌↔◌, IsTrue, IfOk, length, map};
+ghost use Rattle.std.specs.Prelude.{◌≡◌, ◌<◌, ◌↔◌, ℕ, true, IsTrue, IfOk, length, map};
+ghost use Rattle.pr_roles.specs.SafeRuns.{without_premises};
 ghost use Rattle.pr_roles.specs.Scenarios.{is_shared_by, scenario_of, nexus_of, task_of};
 
 use crate::parts::{Nexus, Parts, Start, Task};
@@ -25,6 +26,19 @@ impl Parts {
             early: self.early,
             nexuses: copied_nexuses(alloc, &self.nexuses)?,
         })
+    }
+
+    /// Those of the same scenario without two premises, as one of version 3: somebody else may send on each path, and the unit may
+    /// report an attention before it looks at the reservation.
+    #[tactic(auto, unfolding(crate::specs::Scenarios::scenario_of))]
+    pub(crate) fn without_premises(&self, alloc: Global) -> Result<Parts, AllocError>
+        ensures { IfOk result (λ it. scenario_of it ≡ without_premises (scenario_of self.now)) }
+    {
+        let mut parts = self.copy(alloc)?;
+        parts.version = 3;
+        parts.early = true;
+        share_paths(&mut parts.nexuses);
+        Ok(parts)
     }
 
     /// Whether the other parts are equal.
@@ -89,6 +103,17 @@ fn copied_nexuses(alloc: Global, nexuses: &[Nexus]) -> Result<Vec<Nexus>, AllocE
         copies.push(nexus.copy(alloc)?)?;
     }
     Ok(copies)
+}
+
+// Has somebody else on each path.
+fn share_paths(nexuses: &mut [Nexus])
+    ensures nexuses { map nexus_of nexuses.new ≡ map nexus_of nexuses.old }
+    ensures paths { (h : ℕ) → h < length nexuses.new
+        → is_shared_by (map (λ n. n.shared) nexuses.new) h ≡ true }
+{
+    for i in 0..nexuses.len() {
+        nexuses[i].shared = true;
+    }
 }
 
 fn same_nexuses(nexuses: &[Nexus], others: &[Nexus]) -> bool

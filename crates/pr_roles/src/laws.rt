@@ -2,7 +2,7 @@
 
 ghost use Rattle.pr_roles.specs.Limits.{LimitsAgree};
 ghost use Rattle.pr_roles.specs.SharedAnswers.{FetchesReachAll};
-ghost use Rattle.pr_roles.specs.SafeRuns.{RunsGoOn, SafeSendsAreFine, SharedPathsAreNoSafer};
+ghost use Rattle.pr_roles.specs.SafeRuns.{FewerPremisesAreNoSafer, RunsGoOn, SafeSendsAreFine, SharedPathsAreNoSafer};
 ghost use Rattle.pr_roles.specs.Laws.{StartsAreFound, FirstStartsAreEarliest, RefusalsAreCounted, RefusalsAreDeclared, FirstVersionIsPlain, ResetsAreCounted, ResetsAreDeclared, FirstVersionHasNoReset, FetchesAreUnheard};
 
 /// Where parts fit, some state is allowed to start from exactly where the first start finds a reservation.
@@ -75,4 +75,10 @@ pub fn safe_sends_are_fine()
 /// A scenario that is safe where somebody else may look at the disk by each path is safe where nobody does.
 pub fn shared_paths_are_no_safer()
     ensures { SharedPathsAreNoSafer }
+{}
+
+/// A scenario that is safe without two premises, that nobody else sends on the paths and that the disk looks at the reservation
+/// first, is safe where others may send and the order is its own.
+pub fn fewer_premises_are_no_safer()
+    ensures { FewerPremisesAreNoSafer }
 {}

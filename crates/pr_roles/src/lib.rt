@@ -30,10 +30,10 @@ pub use how::{How, Refusals};
 pub use item::Item;
 pub use keys::key_at;
 pub use laws::{
-    fetches_are_unheard, fetches_reach_all, first_starts_are_earliest, first_version_has_no_reset,
-    first_version_is_plain, limits_agree, refusals_are_counted, refusals_are_declared,
-    resets_are_counted, resets_are_declared, runs_go_on, safe_sends_are_fine,
-    shared_paths_are_no_safer, starts_are_found,
+    fetches_are_unheard, fetches_reach_all, fewer_premises_are_no_safer, first_starts_are_earliest,
+    first_version_has_no_reset, first_version_is_plain, limits_agree, refusals_are_counted,
+    refusals_are_declared, resets_are_counted, resets_are_declared, runs_go_on,
+    safe_sends_are_fine, shared_paths_are_no_safer, starts_are_found,
 };
 pub use nexus::{has_script, nexus_in};
 pub use parts::{Nexus, Parts, Start, Task};

@@ -1,6 +1,7 @@
 //! Scenarios.
 
 ghost use Rattle.std.specs.Prelude.{◌≡◌, ◌↔◌, Some, IsTrue, IfOk, IfErr, IsOk};
+ghost use Rattle.pr_roles.specs.SafeRuns.{without_premises};
 ghost use Rattle.pr_roles.specs.Scenarios.{scenario_of};
 ghost use Rattle.pr_roles.specs.Fitting.{Fits};
 ghost use Rattle.pr_roles.specs.Starts.{CanStart, IsAllowedStart};
@@ -66,6 +67,16 @@ impl Scenario {
     {
         Ok(Scenario {
             parts: self.parts.copy(alloc)?,
+        })
+    }
+
+    /// The same scenario without two premises, as one of version 3: somebody else may send on the path of each nexus, and the unit
+    /// may report an attention before it looks at the reservation.
+    pub fn without_premises(&self, alloc: Global) -> Result<Self, AllocError>
+        ensures { IfOk result (λ it. scenario_of it ≡ without_premises (scenario_of self.now)) }
+    {
+        Ok(Scenario {
+            parts: self.parts.without_premises(alloc)?,
         })
     }
 

@@ -1,1 +1,2 @@
 pub mod DistinctLists
+pub mod FewerPremises

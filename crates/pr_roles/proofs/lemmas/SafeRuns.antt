@@ -1,2 +1,2 @@
+pub mod FewerPremises
 pub mod NextEvents
-pub mod SharedPaths

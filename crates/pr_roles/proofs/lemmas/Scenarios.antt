@@ -1,2 +1,3 @@
 pub mod Nexuses
 pub mod Parts
+pub mod Paths

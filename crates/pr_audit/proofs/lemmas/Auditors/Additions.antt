@@ -276,12 +276,12 @@ may_from_more s so Free clauses u x e after v below may =
 -- ---- what may come is added after fetches
 
 module _ (so : How) (s : Scenario) (w : World) (e : Entry) (k after : Control) (v : UnitState) (formed : IsWellFormed w.unit) (is : control w e.host ≡ k)
-    (guest : is_free k ≡ true → is_guest s e.host ≡ true) (room : IsTrue (may_come s w.history e.host so)) where
+    (there : e.host < length s.nexuses) (guest : is_free k ≡ true → is_guest s e.host ≡ true) (room : IsTrue (may_come s w.history e.host so)) where
   -- of one that is answered from this state
   from_there : (from : UnitState) → IsTrue (s.shared e.host) → IsQuiet w.unit e.host from → MayCome (λ q x. Answers so from e.host q e.reply x) k (role s e.host) from.registry e after v
       → AddsAfterFetches s w (Sent e) (with_entry w e after v)
   from_there from shares less may =
-      let fetched = fetches_reach_all s w e.host from shares formed less in
+      let fetched = fetches_reach_all s w e.host from there shares formed less in
       record {
         events = fetched.0;
         from = from;
@@ -351,7 +351,7 @@ judged_leads so s w e k after v acts is may x y of adds =
 pub judged_tried : (so : How) (s : Scenario) (w : World) (e : Entry) (k after : Control) (b : Bool) (v : UnitState) → IsWellFormed w.unit → ActFor s w → e.host < length s.nexuses → control w e.host ≡ k
     → get_or w.controls e.host k ≡ k → IsTrue (may_come s w.history e.host so) → IsJudged (s.shared e.host) so k (role s e.host) w.unit e b after v → IsTriedBy so s w e b (with_entry w e after v)
 judged_tried so s w e k after true v formed acts there is found room may =
-    (judged_adds so s w e k after v formed is (λ free. free_guests s w e.host acts there (ap is_free is ∙ free)) room (s.shared e.host) refl may, judged_leads so s w e k after v acts is may)
+    (judged_adds so s w e k after v formed is there (λ free. free_guests s w e.host acts there (ap is_free is ∙ free)) room (s.shared e.host) refl may, judged_leads so s w e k after v acts is may)
 judged_tried so s w e k after false v formed acts there is found room not = (
   not.1,
   ap (slice_set w.controls e.host) (not.0 ∙ sym found) ∙ set-get_or w.controls e.host k,

@@ -13,7 +13,7 @@ use Rattle.pr_roles.specs.Safety.{IsSafe}
 use Rattle.pr_roles.specs.Fitting.{Fits, is_nexus}
 use Rattle.pr_roles.specs.declared.item.Item.{Item}
 use Rattle.pr_world.specs.Rooms.{room_by}
-use Rattle.pr_roles.proofs.lemmas.SafeRuns.SharedPaths.{shared_paths_are_no_safer}
+use Rattle.pr_roles.proofs.lemmas.SafeRuns.FewerPremises.{shared_paths_are_no_safer}
 use Rattle.pr_roles.proofs.lemmas.Starts.AllowedStarts.{each_nexus}
 use Rattle.pr_world.proofs.lemmas.Workings.Room.{sent_within}
 use Rattle.pr_world.proofs.lemmas.Workings.Reserves.{room_of_nexus}

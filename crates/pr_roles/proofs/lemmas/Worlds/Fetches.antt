@@ -1,5 +1,5 @@
 -- What a fetch leaves.
-use Rattle.pr_roles.proofs.Common.{◌≡◌, ℕ, Bool, true, false, ◌&&◌, ◌||◌, ◌==◌, ◌⊎◌, inl, inr, List, [], ◌∷◌, IsTrue, sym, refl, ap, ◌∙◌, subst, false≢true, UnitState, Scenario, World}
+use Rattle.pr_roles.proofs.Common.{◌≡◌, ℕ, ◌<◌, Bool, true, false, ◌&&◌, ◌||◌, ◌==◌, ◌⊎◌, inl, inr, List, [], ◌∷◌, length, IsTrue, sym, refl, ap, ◌∙◌, subst, false≢true, UnitState, Scenario, World}
 use Rattle.std.specs.FinSet as set
 use Rattle.std.specs.List.{list_any}
 use Rattle.std.specs.Prelude.{◌≢◌, not}
@@ -43,7 +43,7 @@ same_quiet u v h less back = λ i. record { registry = less.registry i; pending 
     same : v.pending ≡ u.pending
     same = same_pairs v.pending u.pending (λ p. at p.0 p.1 (eqb_tells p.0 h))
 
-module _ (s : Scenario) (h : ℕ) (u : UnitState) (shares : IsTrue (s.shared h)) where
+module _ (s : Scenario) (h : ℕ) (u : UnitState) (within : h < length s.nexuses) (shares : IsTrue (s.shared h)) where
   -- one of these is pending there, and not here
   abbrev AreGone : World → List ℕ → Type 0
   AreGone w codes = (code : ℕ) → is_pending w.unit h code ≡ true → is_pending u h code ≡ false → list_any (λ c. code == c) codes ≡ true
@@ -74,7 +74,7 @@ module _ (s : Scenario) (h : ℕ) (u : UnitState) (shares : IsTrue (s.shared h))
       at true true here there rest = skips (inr there) rest
       at true false here there rest =
           let more = rest (after_fetch w h c) still (less_without w.unit u h c less there) in
-          (Fetched h c ∷ more.0, (after_fetch w h c, record { shares = shares; pending = here; world = refl }, more.1))
+          (Fetched h c ∷ more.0, (after_fetch w h c, record { there = within; shares = shares; pending = here; world = refl }, more.1))
         where
           still : AreGone (after_fetch w h c) codes
           still code left not = of (eqb_tells code c)
@@ -87,4 +87,4 @@ module _ (s : Scenario) (h : ℕ) (u : UnitState) (shares : IsTrue (s.shared h))
               of (inr other) = ap (λ b. b || list_any (λ x. code == x) codes) (sym other.0) ∙ gone code was not
 
 pub fetches_reach_all : FetchesReachAll
-fetches_reach_all s w h u shares formed less = fetched_down s h u shares attentions w (λ code here not. (formed.pending h code here).1) less
+fetches_reach_all s w h u there shares formed less = fetched_down s h u there shares attentions w (λ code here not. (formed.pending h code here).1) less
