@@ -196,7 +196,7 @@ fn never<'a>(alloc: Global) -> Result<Command<'a>, AllocError> {
 fn replay<'a>(alloc: Global) -> Result<Command<'a>, AllocError> {
     let steps = Arg::new(alloc, "STEP")
         .help(
-            "The name of the host or guest whose turn is next, one word for each turn; from version 2 on also NAME:busy, NAME:full and :reset, from version 3 on NAME:early",
+            "The name of the host or guest whose turn is next, one word for each turn; from version 2 on also NAME:busy, NAME:full and :reset, from version 3 on NAME:early and NAME:fetched",
         )
         .action(ArgAction::Append)
         .num_args(1..)

@@ -1,9 +1,11 @@
-//! The steps of a replay: names of nexuses, and how their commands are answered; or resets of the unit.
+//! The steps of a replay: names of nexuses, and how their commands are answered; or resets of the unit, or fetches.
 
 ghost use Rattle.std.specs.Prelude.{◌≡◌, ◌≤◌, IfOk, IfSome, length, option_map, take};
 ghost use Rattle.std.specs.List.{All};
 ghost use Rattle.pr_cdb.specs.declared.codes.TheConstants.{MOST_NEXUSES};
 ghost use Rattle.pr_world.specs.Replays.{IsThere};
+ghost use Rattle.pr_roles.specs.declared.step.Step.TheVariants.{Fetched};
+ghost use Rattle.pr_trace.specs.TraceReadings.{number_of};
 ghost use Rattle.pr_trace.specs.TraceText.{names_of};
 ghost use Rattle.pr_commands.specs.Steps.{asked_of, front_of, has_ending, is_reset_step, step_in, steps_of, texts_of};
 
@@ -12,7 +14,7 @@ use pr_trace::number_of;
 use std::alloc::{AllocError, Global};
 
 /// What the words ask for: the turn of a nexus, `a`, from version 2 on `a:busy`, `a:full` and a reset, `:reset`, and from version 3
-/// on `a:early`. There are none where one of the words is no step.
+/// on `a:early` and a fetch on the path of a nexus, `a:fetched`. There are none where one of the words is no step.
 pub fn steps_of(
     alloc: Global,
     words: &[&str],
@@ -53,6 +55,9 @@ fn step_in(version: u8, nexuses: &[Nexus], word: &[u8]) -> Option<Step>
     if has_ending(3, version, ":early", word) {
         return asked_of(nexuses, without(":early", word), How::Early);
     }
+    if has_ending(3, version, ":fetched", word) {
+        return fetched_of(nexuses, without(":fetched", word));
+    }
     asked_of(nexuses, word, How::Plain)
 }
 
@@ -63,6 +68,15 @@ fn asked_of(nexuses: &[Nexus], name: &[u8], how: How) -> Option<Step>
 {
     let host = number_of(nexuses, name)?;
     Some(Step::Of(host, how))
+}
+
+fn fetched_of(nexuses: &[Nexus], name: &[u8]) -> Option<Step>
+    requires { length nexuses.now ≤ MOST_NEXUSES }
+    ensures fetched { result ≡ option_map Fetched (number_of (names_of nexuses.now) name.now) }
+    ensures there { IfSome result (IsThere (length nexuses.now)) }
+{
+    let host = number_of(nexuses, name)?;
+    Some(Step::Fetched(host))
 }
 
 // From version 2 on a word may ask for a reset.

@@ -1,6 +1,6 @@
 -- Agrees with docs/FORMATS.md, 'Replaying'.
--- Runs in which each turn belongs to a named nexus, or is a reset of the unit.
-use Rattle.std.specs.Prelude.{◌≡◌, ℕ, Bool, true, false, ◌&&◌, not, if◌then◌else◌, List, [], ◌∷◌, Option, Some, None, map, slice_set}
+-- Runs in which each turn belongs to a named nexus, or is a reset of the unit, or a fetch on a path.
+use Rattle.std.specs.Prelude.{◌≡◌, ℕ, ◌≤◌, Bool, true, false, ◌&&◌, not, if◌then◌else◌, IsTrue, List, [], ◌∷◌, Option, Some, None, map, slice_set}
 use Rattle.std.specs.List.{slice_get}
 use Rattle.std.specs.Option.{option_map_or}
 use Rattle.pr_cdb.specs.declared.command.Command.{Command}
@@ -9,7 +9,7 @@ use Rattle.pr_cdb.specs.declared.reply.Status.TheVariants.{Busy, TaskFull}
 use Rattle.pr_cdb.specs.declared.wire.Request.{Request}
 use Rattle.pr_cdb.specs.declared.wire.Request.TheVariants.{Plain}
 use Rattle.pr_cdb.specs.Spelling.{spelling}
-use Rattle.pr_unit.specs.UnitStates.{UnitState}
+use Rattle.pr_unit.specs.UnitStates.{UnitState, is_pending, is_any_pending}
 use Rattle.pr_unit.specs.Replies.{refused_with}
 use Rattle.pr_unit.specs.Steps.{decision}
 use Rattle.pr_unit.specs.TakenSteps.{TakenStep, ends_good}
@@ -25,7 +25,7 @@ use Rattle.pr_roles.specs.Answers.{may_come}
 use Rattle.pr_roles.specs.DeclaredRefusals.{is_served}
 use Rattle.pr_roles.specs.Permits.{is_permitted}
 use Rattle.pr_roles.specs.Scenarios.{Scenario, Task, Scripted, Planned, role, task}
-use Rattle.pr_roles.specs.Worlds.{World, control, standing_of, is_guest, after, after_reset, may_reset, world_from}
+use Rattle.pr_roles.specs.Worlds.{World, control, standing_of, is_guest, after, after_fetch, after_reset, may_reset, world_from}
 
 -- a world, and what is left of each guest's plan
 pub record Schedule : Type 0 where
@@ -95,9 +95,29 @@ Turn s x h how y = TurnAs s x h (how_now s x.world.history h how) y
 abbrev pub ResetTurn : Scenario → Schedule → Schedule → Type 0
 ResetTurn s x y = y ≡ (if may_reset s x.world.history then record x { world = after_reset x.world } else x)
 
+-- of the attentions that are pending for h, this is the lowest
+pub record IsLowest (u : UnitState) (h code : ℕ) : Type 0 where
+  pub pending : IsTrue (is_pending u h code)
+  pub least : (other : ℕ) → is_pending u h other ≡ true → code ≤ other
+
+-- somebody else on the path of h is told of the lowest attention that is pending for h: then only the world is another
+pub record Fetches (x : Schedule) (h : ℕ) (y : Schedule) : Type 0 where
+  pub code : ℕ
+  pub lowest : IsLowest x.world.unit h code
+  pub schedule : y ≡ record x { world = after_fetch x.world h code }
+
+abbrev pub FetchIf : Bool → Schedule → ℕ → Schedule → Type 0
+FetchIf true x h y = Fetches x h y
+FetchIf false x h y = y ≡ x
+
+-- so it is told where the path is shared and something is pending, else nothing happens
+abbrev pub FetchTurn : Scenario → Schedule → ℕ → Schedule → Type 0
+FetchTurn s x h y = FetchIf (s.shared h && is_any_pending x.world.unit h) x h y
+
 abbrev pub Advances : Scenario → Schedule → Step → Schedule → Type 0
 Advances s x (step.Of h how) y = Turn s x h how y
 Advances s x step.Reset y = ResetTurn s x y
+Advances s x (step.Fetched h) y = FetchTurn s x h y
 
 -- these, one after another
 abbrev pub ScheduledRun : Scenario → Schedule → List Step → Schedule → Type 0

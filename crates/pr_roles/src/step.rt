@@ -9,4 +9,7 @@ pub enum Step {
     Of(u8, How),
     /// A reset of the unit, where one may still come.
     Reset,
+    /// Somebody else on the path of the nexus with this number is told of the lowest attention that is pending for it, where its
+    /// path is shared and one is.
+    Fetched(u8),
 }

@@ -14,10 +14,11 @@ use Rattle.pr_roles.specs.Schedules.{Schedule, ScheduledRun, schedule_from}
 use Rattle.pr_world.specs.declared.replaying.Replayed.{Replayed}
 use Rattle.pr_audit.specs.Ends.{counts_in, endings, endings_of, is_trapped_end}
 
--- whoever's turn it is, it is one of so many nexuses
+-- whoever's turn or path it is, it is one of so many nexuses
 abbrev pub IsThere : ℕ → Step → Type 0
 IsThere n (step.Of host how) = host < n
 IsThere n step.Reset = Unit {0}
+IsThere n (step.Fetched host) = host < n
 
 -- turns of these nexuses, one after another, in which the unit answers
 abbrev pub plain_steps : List ℕ → List Step

@@ -92,7 +92,25 @@ impl Course {
         true
     }
 
-    /// Takes the step: the turn of a nexus, or a reset of the unit.
+    /// Has somebody else on the path of this nexus be told of the lowest attention that is pending for it, where the path is
+    /// shared and one is pending; else nothing changes. It takes no memory, and no room.
+    pub(crate) fn fetch(&mut self, scenario: &Scenario, host: u8)
+        requires there { host < length (scenario_of scenario.now).nexuses }
+        requires stands { IsCourseOf scenario.now self.old }
+        ensures turn { CourseTakes scenario.now (Step.Fetched host) self.old self.new }
+        ensures reached { CourseExtends scenario.now (Step.Fetched host) self.old self.new }
+        ensures stands { IsCourseOf scenario.now self.new }
+        ensures history { self.new.history ≡ self.old.history }
+    {
+        if !is_shared(scenario, host) {
+            return;
+        }
+        if let Some(attention) = self.unit.pending(host).lowest() {
+            self.unit.fetch(host, attention);
+        }
+    }
+
+    /// Takes the step: the turn of a nexus, a reset of the unit, or a fetch.
     pub(crate) fn advance(&mut self, scenario: &Scenario, step: Step)
         requires there { IsThere (length (scenario_of scenario.now).nexuses) step }
         requires stands { IsCourseOf scenario.now self.old }
@@ -108,6 +126,9 @@ impl Course {
             }
             Step::Reset => {
                 self.reset(scenario);
+            }
+            Step::Fetched(host) => {
+                self.fetch(scenario, host);
             }
         }
     }
@@ -142,6 +163,14 @@ impl Course {
             counts,
         })
     }
+}
+
+// Whether somebody else may send on the path of the nexus with this number.
+fn is_shared(scenario: &Scenario, host: u8) -> bool
+    requires { host < length (scenario_of scenario.now).nexuses }
+    ensures { result ≡ (scenario_of scenario.now).shared host }
+{
+    scenario.parts().nexuses[usize::from(host)].shared
 }
 
 // Each host and guest at its beginning.

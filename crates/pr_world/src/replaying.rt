@@ -59,7 +59,8 @@ pub fn replay(alloc: Global, scenario: &Scenario, steps: &[u8]) -> Result<Replay
 /// the unit answers as always; and so it does where it may not report early. A guest's command that is refused is used up, and
 /// never passed over.
 ///
-/// A step may also be a reset of the unit. Where the scenario has none left, it is passed over.
+/// A step may also be a reset of the unit. Where the scenario has none left, it is passed over. Or somebody else on the path of a
+/// nexus is told of the lowest attention that is pending for it. Where the path is not shared, or none is pending, nothing happens.
 pub fn replay_as(alloc: Global, scenario: &Scenario, steps: &[Step]) -> Result<Replayed, AllocError>
     requires there { All (IsThere (length (scenario_of scenario.now).nexuses)) steps.now }
     requires few { length steps.now < 2 ^ 32 }

@@ -1,2 +1,3 @@
+pub mod Fetches
 pub mod Others
 pub mod Resets

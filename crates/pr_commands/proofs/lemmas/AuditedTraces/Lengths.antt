@@ -10,6 +10,7 @@ use Rattle.std.proofs.lemmas.List.Folds.{sum_by-replicate}
 use Rattle.std.proofs.lemmas.Option.{slice_get_past}
 use Rattle.std.specs.Option.{option_map_or}
 use Rattle.pr_cdb.specs.Spelling.{spelling}
+use Rattle.pr_unit.specs.UnitStates.{is_any_pending}
 use Rattle.pr_roles.specs.declared.how.How.{How}
 use Rattle.pr_roles.specs.declared.item.Item.TheVariants.{Sent, Reset}
 use Rattle.pr_roles.specs.declared.step.Step.{Step}
@@ -17,7 +18,7 @@ use Rattle.pr_roles.specs.declared.step.Step.TheVariants as step
 use Rattle.pr_roles.specs.declared.limits.TheConstants.{MOST_RESETS}
 use Rattle.pr_roles.specs.Fitting.{Fits, are_resets, most_declared}
 use Rattle.pr_roles.specs.Safety.{IsSafe}
-use Rattle.pr_roles.specs.Schedules.{Schedule, TurnAs, Advances, ScheduledRun, how_now, plan_of, schedule_from}
+use Rattle.pr_roles.specs.Schedules.{Schedule, TurnAs, Advances, FetchIf, ScheduledRun, how_now, plan_of, schedule_from}
 use Rattle.pr_roles.specs.Schedules as turn
 use Rattle.pr_roles.specs.Worlds.{World, after_reset, control_of, entry_of, may_reset, resets_in, world_from}
 use Rattle.pr_roles.proofs.lemmas.Worlds.Resets.{run_within}
@@ -64,9 +65,18 @@ reset_longer x y true reset = record {
   items = omega (arith, ap (λ (z : Schedule). length z.world.history) reset, length-append x.world.history (Reset ∷ []));
 }
 
+fetch_longer : (x y : Schedule) (h : ℕ) (b : Bool) → FetchIf b x h y → IsLonger x y 1
+fetch_longer x y h false same = as_it_was x y 1 same
+fetch_longer x y h true fetched = record {
+  controls = ap (λ (z : Schedule). length z.world.controls) fetched.schedule;
+  plans = ap (λ (z : Schedule). length z.plans) fetched.schedule;
+  items = omega (arith, ap (λ (z : Schedule). length z.world.history) fetched.schedule);
+}
+
 step_longer : (s : Scenario) (x y : Schedule) (next : Step) → Advances s x next y → IsLonger x y 1
 step_longer s x y (step.Of h wanted) advances = turn_longer (how_now s x.world.history h wanted) s x y h advances
 step_longer s x y step.Reset advances = reset_longer x y (may_reset s x.world.history) advances
+step_longer s x y (step.Fetched h) advances = fetch_longer x y h (s.shared h && is_any_pending x.world.unit h) advances
 
 pub run_longer : (s : Scenario) (x y : Schedule) (steps : List Step) → ScheduledRun s x steps y → IsLonger x y (length steps)
 run_longer s x y [] run = as_it_was x y 0 run

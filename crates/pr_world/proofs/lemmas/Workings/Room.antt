@@ -1,14 +1,15 @@
 -- What is sent along a scheduled run is within the room for it.
 use Rattle.pr_world.proofs.Common.{◌≡◌, ℕ, suc, ◌+◌, ◌<◌, ◌≤◌, Bool, true, false, List, [], ◌∷◌, ◌++◌, map, length, get_or, if◌then◌else◌, nat_lt, slice_get, slice_set, Some, None, Option, option_map, sym, refl, ap, ◌∙◌, subst, arith, option_map_or, nat_tests, get_or_past, slice_get-map, spelling, Command, Plain, UnitState, Stmts, ready, how_now, IsSafe, Task, Scripted, Planned, Nexus, task, Scenario, nexus, Schedule, plan, next_of, TurnAs, standing_of, World, control, entry_of, Host, may_reset, world_from, commands_by, Entry, How, Item, Sent, Reset, Step, IsReached, does}
-use Rattle.std.proofs.Common.{◌≢◌, ◌==◌, inl, inr, ◌⊎◌, length-set, unwrap_or}
+use Rattle.std.proofs.Common.{◌≢◌, ◌==◌, ◌&&◌, inl, inr, ◌⊎◌, length-set, unwrap_or}
 use Rattle.std.proofs.lemmas.List.{get_or-set_same, get_or-set_other}
 use Rattle.std.proofs.lemmas.Option.{none-some, same_Some, unwrap_or-slice_get}
 use Rattle.pr_unit.proofs.lemmas.Steps.Existence.{every_request_has_a_step}
+use Rattle.pr_unit.specs.UnitStates.{is_any_pending}
 use Rattle.pr_roles.specs.declared.how.How.TheVariants as how
 use Rattle.pr_roles.specs.declared.step.Step.TheVariants as step
 use Rattle.pr_roles.specs.Worlds.{HostSends, after, after_reset, resets_in}
 use Rattle.pr_roles.specs.Safety.{KeepsBudgetBy}
-use Rattle.pr_roles.specs.Schedules.{Advances, ScheduledRun, plan_of, schedule_from}
+use Rattle.pr_roles.specs.Schedules.{Advances, FetchIf, ScheduledRun, plan_of, schedule_from}
 use Rattle.pr_roles.specs.Schedules as turn
 use Rattle.pr_roles.proofs.lemmas.Schedules.NextCommands.{next_is}
 use Rattle.pr_roles.proofs.lemmas.Worlds.Resets.{run_within}
@@ -129,6 +130,12 @@ reset_kept s x y true turn kept g =
     less_kept (task s g) (used y g) (used x g) (omega (arith, ap (λ z. used z g) turn, sent-push x.world.history Reset g)) (kept g)
 reset_kept s x y false turn kept g = subst (λ z. KeepsPlanBy (task s g) (used z g)) (sym turn) (kept g)
 
+-- a fetch likewise
+fetch_kept : (s : Scenario) (x y : Schedule) (h : ℕ) (b : Bool) → FetchIf b x h y → KeepsPlans s x → KeepsPlans s y
+unfolding KeepsPlans
+fetch_kept s x y h true turn kept = subst (KeepsPlans s) (sym turn.schedule) kept
+fetch_kept s x y h false turn kept = subst (KeepsPlans s) (sym turn) kept
+
 -- ---- scheduled runs
 
 kept_at_first : (s : Scenario) (u : UnitState) → KeepsPlans s (schedule_from s u)
@@ -153,6 +160,7 @@ kept_at_first s u g = by (nexus s g) refl
 step_kept : (s : Scenario) (x y : Schedule) (next : Step) → Advances s x next y → KeepsPlans s x → KeepsPlans s y
 step_kept s x y (step.Of h wanted) turn kept = turn_kept (how_now s x.world.history h wanted) s x y h turn kept
 step_kept s x y step.Reset turn kept = reset_kept s x y (may_reset s x.world.history) turn kept
+step_kept s x y (step.Fetched h) turn kept = fetch_kept s x y h (s.shared h && is_any_pending x.world.unit h) turn kept
 
 run_kept : (s : Scenario) (x y : Schedule) (steps : List Step) → ScheduledRun s x steps y → KeepsPlans s x → KeepsPlans s y
 run_kept s x y [] run kept = subst (KeepsPlans s) (sym run) kept
