@@ -6,9 +6,10 @@ use clap::ArgMatches;
 /// A subcommand with the paths and words behind it. The path of a scenario is `-` where that is standard input.
 #[derive(Clone, Copy)]
 pub enum Call<'a> {
-    /// The verdict on each of these scenarios.
+    /// The verdict on each of these scenarios, by a search where outlines refuse it and that is asked for.
     Check {
         paths: &'a [&'a str],
+        searches: bool,
     },
 
     /// What can be known of the unit at each send of the scripts.
@@ -16,10 +17,11 @@ pub enum Call<'a> {
         path: &'a str,
     },
 
-    /// The table of the script of the host with this name.
+    /// The table of the script of the host with this name, where the verdict accepts.
     Table {
         path: &'a str,
         host: &'a str,
+        searches: bool,
     },
 
     /// A run that shows why the scripts are refused.
@@ -51,9 +53,10 @@ pub enum Call<'a> {
         list: &'a str,
     },
 
-    /// The trace of a run with a thread for each host and guest.
+    /// The trace of a run with a thread for each host and guest, where the verdict accepts.
     Run {
         path: &'a str,
+        searches: bool,
     },
 
     /// Whether what this trace says may have happened.
@@ -76,6 +79,7 @@ pub fn call_of<'a>(matches: &'a ArgMatches<'_>) -> Option<Call<'a>> {
     let call = match Subcommand::of_name(name)? {
         Subcommand::Check => Call::Check {
             paths: arguments.get_strs("FILE")?,
+            searches: arguments.get_flag("search"),
         },
         Subcommand::Outline => Call::Outline {
             path: arguments.get_str("FILE")?,
@@ -83,6 +87,7 @@ pub fn call_of<'a>(matches: &'a ArgMatches<'_>) -> Option<Call<'a>> {
         Subcommand::Table => Call::Table {
             path: arguments.get_str("FILE")?,
             host: arguments.get_str("HOST")?,
+            searches: arguments.get_flag("search"),
         },
         Subcommand::Witness => Call::Witness {
             path: arguments.get_str("FILE")?,
@@ -98,6 +103,7 @@ pub fn call_of<'a>(matches: &'a ArgMatches<'_>) -> Option<Call<'a>> {
         Subcommand::Replay => replay_of(arguments)?,
         Subcommand::Run => Call::Run {
             path: arguments.get_str("FILE")?,
+            searches: arguments.get_flag("search"),
         },
         Subcommand::Audit => Call::Audit {
             path: arguments.get_str("FILE")?,

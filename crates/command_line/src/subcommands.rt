@@ -31,10 +31,10 @@ const AUDIT_CALL: &str = "For example: fence audit preempted-writer.fence preemp
 const EXPLAIN_CALL: &str =
     "For example: fence explain missing-arm.fence, or fence explain missing-arm.fence missing-arm.1.trace";
 
-/// What the words of a command line say: the subcommand `check` with one `FILE` or more, `outline`, `witness` or `run` with its
-/// `FILE`, `table` with its `FILE` and its `HOST`, `ends` with its `FILE` and any number of `END`, `never` with its `FILE` and any
-/// number of `FACT`, `replay` with its `FILE` and one `STEP` or more, or the path of a list of them behind `--steps`, `audit` with
-/// its `FILE` and its `TRACE`, or `explain` with its `FILE` and at most one `TRACE`.
+/// What the words of a command line say: the subcommand `check` with one `FILE` or more, `run` with its `FILE`, or `table` with its
+/// `FILE` and its `HOST`, each with `--search` or without; `outline` or `witness` with its `FILE`, `ends` with its `FILE` and any
+/// number of `END`, `never` with its `FILE` and any number of `FACT`, `replay` with its `FILE` and one `STEP` or more, or the path of
+/// a list of them behind `--steps`, `audit` with its `FILE` and its `TRACE`, or `explain` with its `FILE` and at most one `TRACE`.
 pub fn matches_of<'a>(alloc: Global, words: &'a [String]) -> Result<ArgMatches<'a>, Error> {
     command(alloc, words)?.try_get_matches_from(words)
 }
@@ -133,7 +133,8 @@ fn check<'a>(alloc: Global) -> Result<Command<'a>, AllocError> {
     Command::new(alloc, "check")
         .about("Verifies the scripts, and writes the verdict")
         .after_help(CHECK_CALL)
-        .arg(files(alloc))
+        .arg(files(alloc))?
+        .arg(searches(alloc))
 }
 
 fn outline<'a>(alloc: Global) -> Result<Command<'a>, AllocError> {
@@ -155,7 +156,8 @@ fn table<'a>(alloc: Global) -> Result<Command<'a>, AllocError> {
         )
         .after_help(TABLE_CALL)
         .arg(file(alloc))?
-        .arg(host)
+        .arg(host)?
+        .arg(searches(alloc))
 }
 
 fn witness<'a>(alloc: Global) -> Result<Command<'a>, AllocError> {
@@ -222,7 +224,8 @@ fn run<'a>(alloc: Global) -> Result<Command<'a>, AllocError> {
             "Verifies the scripts, runs the scenario with a thread for each host and guest, and writes the trace",
         )
         .after_help(RUN_CALL)
-        .arg(file(alloc))
+        .arg(file(alloc))?
+        .arg(searches(alloc))
 }
 
 fn audit<'a>(alloc: Global) -> Result<Command<'a>, AllocError> {
@@ -262,4 +265,13 @@ fn file<'a>(alloc: Global) -> Arg<'a> {
     Arg::new(alloc, "FILE")
         .help("The scenario; - is standard input")
         .required(true)
+}
+
+fn searches<'a>(alloc: Global) -> Arg<'a> {
+    Arg::new(alloc, "search")
+        .long("search")
+        .help(
+            "Where the scripts are refused, looks at all states that can come up, and accepts them where nothing goes wrong in any",
+        )
+        .action(ArgAction::SetTrue)
 }

@@ -10,6 +10,7 @@ use Rattle.pr_words.specs.Tellings.{IsTold}
 use Rattle.pr_commands.specs.declared.fault.Fault.{Fault}
 use Rattle.pr_commands.specs.Audits.{IsTraceFault}
 use Rattle.pr_commands.specs.Checks.{IsVerdictOf}
+use Rattle.pr_commands.specs.declared.judging.Method.TheVariants.{Outlines}
 use Rattle.pr_commands.specs.Endings.{IsFault}
 
 -- the text is a scenario, the trace is read as a history under its names, and what is told of it says whether it is illegal
@@ -30,5 +31,5 @@ EndsTraceTold known traced (Err f) =
 
 -- of a text that is known: whether its scenario is refused, or its first fault
 abbrev pub EndsTold : Option (List ℕ) → Result Bool Fault → Type 0
-EndsTold known (Ok refused) = IfSome known (λ text. (line : List ℕ) × IsVerdictOf text line refused)
+EndsTold known (Ok refused) = IfSome known (λ text. (line : List ℕ) × IsVerdictOf Outlines text line refused)
 EndsTold known (Err f) = IsFault ⊥ (λ e. ⊥) (λ name. ⊥) ⊥ (Unit {0}) known f

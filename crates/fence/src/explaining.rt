@@ -10,7 +10,7 @@ use crate::told::read_and_tell;
 use pr_commands::{ExitStatus, Fault, ended};
 use pr_explain::{
     Explanation, ends_of, explanation, inquiry, lines_of, write_explanation, write_inquiry,
-    write_prospects,
+    write_prospects, write_relief,
 };
 use pr_output::WriteFault;
 use std::alloc::Global;
@@ -33,8 +33,8 @@ pub fn do_explain<R: Read, W: Write, E: Write>(
     ended(errors, end)
 }
 
-// Reads the text, plans what is said of its verdict, and writes that before it searches: whether the scenario is refused. Of a
-// fault of the text the words go out before its line.
+// Reads the text, plans what is said of its verdict, and writes that: whether the scenario is refused. Of a fault of the text the
+// words go out before its line.
 fn explain_text<R: Read, W: Write>(
     alloc: Global,
     reader: &mut R,
@@ -47,9 +47,7 @@ fn explain_text<R: Read, W: Write>(
     let scenario = scenario?;
     let lines = lines_of(alloc, &text)?;
     let explanation = explanation(alloc, scenario)?;
-    write_explanation(writer, &lines, &explanation)?;
-    sent_on(writer)?;
-    write_found(alloc, writer, &lines, &explanation)?;
+    write_told(alloc, writer, &lines, &explanation)?;
     Ok(explanation.is_refusal())
 }
 
@@ -61,8 +59,9 @@ fn sent_on<W: Write>(writer: &mut W) -> Result<(), WriteFault> {
     }
 }
 
-// Searches, and writes what comes of it.
-fn write_found<W: Write>(
+// Searches, and writes what is said of the verdict, and what comes of the search. A scenario that is refused is searched before
+// anything is written, since the first that is said of it is that it can be left so, where it can.
+fn write_told<W: Write>(
     alloc: Global,
     writer: &mut W,
     lines: &[&[u8]],
@@ -72,11 +71,15 @@ fn write_found<W: Write>(
 {
     match explanation {
         Explanation::Accepted(accepted) => {
+            write_explanation(writer, lines, explanation)?;
+            sent_on(writer)?;
             let ends = ends_of(alloc, &accepted.scenario)?;
             write_prospects(writer, lines, accepted, ends.as_ref())?;
         }
         Explanation::Refused(refused) => {
             let inquiry = inquiry(alloc, refused)?;
+            write_relief(writer, lines, refused, &inquiry)?;
+            write_explanation(writer, lines, explanation)?;
             write_inquiry(writer, lines, refused, &inquiry)?;
         }
     }

@@ -22,8 +22,8 @@ use crate::witnessed::{FIRST_LINE, do_explain_witness};
 use clap::error::ErrorKind;
 use command_line::{Call, call_of, matches_of};
 use pr_commands::{
-    ExitStatus, Fault, args_fault, do_audit, do_check, do_ends, do_never, do_outline, do_replay,
-    do_run, do_table, do_witness, ended,
+    ExitStatus, Fault, Method, args_fault, do_audit, do_check, do_ends, do_never, do_outline,
+    do_replay, do_run, do_table, do_witness, ended,
 };
 use pr_trace::TraceError;
 use std::io::Write;
@@ -75,46 +75,72 @@ fn run_call<T: Threads + Wait + Sync>(
     call: Call<'_>,
 ) -> Result<ExitStatus, Fault> {
     match call {
-        Call::Check { paths } => Ok(check(rt, paths)),
+        Call::Check { paths, searches } => Ok(check(rt, threads, method_of(searches), paths)),
         Call::Outline { path } => outline(rt, path),
-        Call::Table { path, host } => table(rt, path, host),
+        Call::Table {
+            path,
+            host,
+            searches,
+        } => { table(rt, threads, method_of(searches), path, host) }
         Call::Witness { path } => witness(rt, threads, path),
         Call::Ends { path, asked } => ends(rt, threads, path, asked),
         Call::Never { path, asked } => never(rt, threads, path, asked),
         Call::Replay { path, steps } => replay(rt, path, steps),
         Call::ReplayListed { path, list } => replay_listed(rt, path, list),
-        Call::Run { path } => run_threads(rt, threads, path),
+        Call::Run { path, searches } => run_threads(rt, threads, method_of(searches), path),
         Call::Audit { path, trace } => audit(rt, path, trace),
         Call::Explain { path, trace } => explain(rt, threads, path, trace),
     }
 }
 
-fn check(rt: &HostRuntime, paths: &[&str]) -> ExitStatus {
-    match paths {
-        [path] => check_path(rt, path, &mut rt.stdout(), &mut rt.stderr()),
-        _ => check_paths(rt, paths),
+// How a scenario may be found safe, where a search was asked for or not.
+fn method_of(searches: bool) -> Method {
+    if searches {
+        Method::Search
+    } else {
+        Method::Outlines
     }
 }
 
-fn check_path<W: Write, E: Write>(
+fn check<T: Threads>(rt: &HostRuntime, threads: &T, method: Method, paths: &[&str]) -> ExitStatus {
+    match paths {
+        [path] => {
+            let (mut output, mut errors) = (rt.stdout(), rt.stderr());
+            check_path(rt, threads, method, path, &mut output, &mut errors)
+        }
+        _ => check_paths(rt, threads, method, paths),
+    }
+}
+
+fn check_path<T: Threads, W: Write, E: Write>(
     rt: &HostRuntime,
+    threads: &T,
+    method: Method,
     path: &str,
     output: &mut W,
     errors: &mut E,
 ) -> ExitStatus {
     match opened(open(rt, path)) {
-        Ok(mut text) => do_check(rt.alloc(), &mut text, output, errors),
+        Ok(mut text) => judged(rt, threads, method, &mut text, |text| {
+            do_check(rt.alloc(), method, text, output, errors)
+        }),
         Err(fault) => ended(errors, Err(fault)),
     }
 }
 
 // Each line behind its path, and the worst status. Where one can't be written, none behind it could be, so that is the end.
-fn check_paths(rt: &HostRuntime, paths: &[&str]) -> ExitStatus {
+fn check_paths<T: Threads>(
+    rt: &HostRuntime,
+    threads: &T,
+    method: Method,
+    paths: &[&str],
+) -> ExitStatus {
     let mut worst = ExitStatus::Done;
     for path in paths {
         let mut written = Line::new();
         let mut told = Line::new();
-        worst = worse(worst, check_path(rt, path, &mut written, &mut told));
+        let status = check_path(rt, threads, method, path, &mut written, &mut told);
+        worst = worse(worst, status);
         let (mut output, mut errors) = (rt.stdout(), rt.stderr());
         if let Err(fault) = put_labelled(&mut output, &mut errors, path, &written, &told) {
             return worse(worst, ended(&mut errors, Err(fault)));
@@ -123,20 +149,45 @@ fn check_paths(rt: &HostRuntime, paths: &[&str]) -> ExitStatus {
     worst
 }
 
+// A command that judges the text, which may search for long by one of the methods alone.
+fn judged<T: Threads, F: FnOnce(&mut Source) -> ExitStatus>(
+    rt: &HostRuntime,
+    threads: &T,
+    method: Method,
+    text: &mut Source,
+    command: F,
+) -> ExitStatus
+    requires { F.IsAlwaysCallable command }
+{
+    match method {
+        Method::Outlines => command(text),
+        Method::Search => noticed(rt, threads, text, command),
+    }
+}
+
 fn outline(rt: &HostRuntime, path: &str) -> Result<ExitStatus, Fault> {
     let mut text = opened(open(rt, path))?;
     Ok(do_outline(rt.alloc(), &mut text, &mut rt.stdout(), &mut rt.stderr()))
 }
 
-fn table(rt: &HostRuntime, path: &str, host: &str) -> Result<ExitStatus, Fault> {
+fn table<T: Threads>(
+    rt: &HostRuntime,
+    threads: &T,
+    method: Method,
+    path: &str,
+    host: &str,
+) -> Result<ExitStatus, Fault> {
     let mut text = opened(open(rt, path))?;
-    Ok(do_table(
-        rt.alloc(),
-        host,
-        &mut text,
-        &mut rt.stdout(),
-        &mut rt.stderr(),
-    ))
+    Ok(judged(rt, threads, method, &mut text, |text| {
+        do_table(
+            rt.alloc(),
+            method,
+            host,
+            text,
+            &mut rt.stdout(),
+            &mut rt.stderr(),
+        )
+    }))
 }
 
 fn witness<T: Threads>(rt: &HostRuntime, threads: &T, path: &str) -> Result<ExitStatus, Fault> {
@@ -225,16 +276,20 @@ fn replay_listed(rt: &HostRuntime, path: &str, list: &str) -> Result<ExitStatus,
 fn run_threads<T: Threads + Wait + Sync>(
     rt: &HostRuntime,
     threads: &T,
+    method: Method,
     path: &str,
 ) -> Result<ExitStatus, Fault> {
     let mut text = opened(open(rt, path))?;
-    Ok(do_run(
-        threads,
-        rt.alloc(),
-        &mut text,
-        &mut rt.stdout(),
-        &mut rt.stderr(),
-    ))
+    Ok(judged(rt, threads, method, &mut text, |text| {
+        do_run(
+            threads,
+            rt.alloc(),
+            method,
+            text,
+            &mut rt.stdout(),
+            &mut rt.stderr(),
+        )
+    }))
 }
 
 // `-` is standard input for one of the two, and the name of a file where that is taken. Both are opened before either is read.

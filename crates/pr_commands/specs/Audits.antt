@@ -12,7 +12,7 @@ use Rattle.pr_text.specs.Reading.{IsWrittenAs}
 use Rattle.pr_audit.specs.Audits.{IsLegalFromFirst, IsFirstIllegal}
 use Rattle.pr_trace.specs.declared.trace_error.TraceError.{TraceError}
 use Rattle.pr_report.specs.declared.verdict.Verdict.{Verdict}
-use Rattle.pr_report.specs.declared.verdict.Verdict.TheVariants.{Accepted, Refused, Legal, Illegal}
+use Rattle.pr_report.specs.declared.verdict.Verdict.TheVariants.{Accepted, AcceptedBySearch, Refused, Legal, Illegal}
 use Rattle.pr_trace.specs.BytesTaken.{LosesUpTo, most_of_trace, most_of_any_trace}
 use Rattle.pr_trace.specs.TraceReadings.{Faults, trace_of}
 use Rattle.pr_trace.specs.TraceText.{names_in}
@@ -25,6 +25,7 @@ use Rattle.pr_commands.specs.Endings.{IsAnswerOf, Outputs}
 -- scenario itself an audit says nothing.
 abbrev pub Holds : Verdict → Scenario → List Item → Type 0
 Holds Accepted s history = ⊥
+Holds (AcceptedBySearch worlds) s history = ⊥
 Holds (Refused reason) s history = ⊥
 Holds (Legal items) s history = IsLegalFromFirst s history × (items ≡ length history)
 Holds (Illegal place) s history = IsFirstIllegal s history place

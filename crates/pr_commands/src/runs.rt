@@ -16,9 +16,9 @@ ghost use Rattle.pr_commands.specs.Runs.{EndsRun, outcome_text};
 ghost use Rattle.pr_commands.specs.inside.Judgements.{IsJudged};
 ghost use Rattle.pr_commands.specs.inside.Performances.{IsFaultFor, IsPerformed, IsRunFault, Stands, performed_text};
 
-use crate::checks::settled;
 use crate::ending::ended;
 use crate::fault::{ExitStatus, Fault};
+use crate::judging::{Acceptance, Method, judged};
 use arrayvec::ArrayVec;
 use pr_audit::commands_by;
 use pr_cdb::codes::MOST_NEXUSES;
@@ -34,15 +34,16 @@ use std::io::{Read, Write};
 use std::sync::Wait;
 use std::thread::Threads;
 
-/// `fence run`: reads a scenario, verifies it, with a thread for each host that has a script, and runs it in threads, one for
-/// each nexus, until every script is stopped and every plan is done. Then it writes the trace. Of a scenario that is
-/// refused nothing is run, and the line of the verdict is written.
+/// `fence run`: reads a scenario, verifies it by this method, with a thread for each host that has a script, and runs it in threads,
+/// one for each nexus, until every script is stopped and every plan is done. Then it writes the trace. Of a scenario that is refused
+/// nothing is run, and the line of the verdict is written.
 ///
 /// Of a text whose bytes the contract knows at most 65,537 are taken. A fault is told in one line on `errors`, whose own
 /// faults change nothing. It waits for the threads, and so may never return.
 pub fn do_run<T: Threads + Wait + Sync, R: Read, W: Write, E: Write>(
     rt: &T,
     alloc: Global,
+    method: Method,
     reader: &mut R,
     writer: &mut W,
     errors: &mut E,
@@ -50,7 +51,7 @@ pub fn do_run<T: Threads + Wait + Sync, R: Read, W: Write, E: Write>(
     ensures command { IsCommandOver R.Read reader W.Write writer E.Write errors EndsRun result }
     ensures limited { LosesUpTo (MOST_BYTES + 1) (R.remaining reader.old) (R.remaining reader.new) }
 {
-    let end = run_text(rt, alloc, reader, writer);
+    let end = run_text(rt, alloc, method, reader, writer);
     ended(errors, end)
 }
 
@@ -58,13 +59,14 @@ pub fn do_run<T: Threads + Wait + Sync, R: Read, W: Write, E: Write>(
 fn run_text<T: Threads + Wait + Sync, R: Read, W: Write>(
     rt: &T,
     alloc: Global,
+    method: Method,
     reader: &mut R,
     writer: &mut W,
 ) -> Result<bool, Fault>
     ensures ends { EndsOver R.Read reader W.Write writer EndsRun result }
     ensures limited { LosesUpTo (MOST_BYTES + 1) (R.remaining reader.old) (R.remaining reader.new) }
 {
-    let performed = perform(rt, alloc, reader)?;
+    let performed = perform(rt, alloc, method, reader)?;
     put_performed(writer, &performed)?;
     Ok(performed.is_err())
 }
@@ -81,14 +83,15 @@ struct Ran {
 fn perform<T: Threads + Wait + Sync, R: Read>(
     rt: &T,
     alloc: Global,
+    method: Method,
     reader: &mut R,
 ) -> Result<Result<Ran, Refused>, Fault>
     ensures performed { IsPerformed (R.remaining reader.old) result }
     ensures limited { LosesUpTo (MOST_BYTES + 1) (R.remaining reader.old) (R.remaining reader.new) }
 {
-    match judge_each(rt, alloc, reader)? {
-        Ok(verified) => {
-            let ran = run_verified(rt, alloc, verified)?;
+    match judge_each(rt, alloc, method, reader)? {
+        Ok(accepted) => {
+            let ran = run_verified(rt, alloc, accepted.verified)?;
             Ok(Ok(ran))
         }
         Err(refused) => Ok(Err(refused)),
@@ -99,13 +102,18 @@ fn perform<T: Threads + Wait + Sync, R: Read>(
 fn judge_each<T: Threads + Wait + Sync, R: Read>(
     rt: &T,
     alloc: Global,
+    method: Method,
     reader: &mut R,
-) -> Result<Result<Verified, Refused>, Fault>
-    ensures judged { IsJudged (R.remaining reader.old) result }
+) -> Result<Result<Acceptance, Refused>, Fault>
+    ensures judged { IsJudged method (R.remaining reader.old) result }
     ensures limited { LosesUpTo (MOST_BYTES + 1) (R.remaining reader.old) (R.remaining reader.new) }
 {
     let scenario = read(alloc, reader)?;
-    settled(verify_each(rt, alloc, scenario, &NoCheckGate))
+    judged(
+        alloc,
+        method,
+        verify_each(rt, alloc, scenario, &NoCheckGate),
+    )
 }
 
 // The copy of the scenario has the names for the trace.

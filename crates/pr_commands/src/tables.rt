@@ -9,18 +9,19 @@ ghost use Rattle.pr_output.specs.Written.{Writes};
 ghost use Rattle.pr_commands.specs.Endings.{IsCommandOver, EndsOver};
 ghost use Rattle.pr_commands.specs.Tables.{EndsTable, scripted_host};
 ghost use Rattle.pr_commands.specs.inside.JudgedHosts.{IsJudgedFor, answered_text, scenario_in};
-ghost use Rattle.pr_commands.specs.inside.Judgements.{Stands};
+ghost use Rattle.pr_commands.specs.inside.Judgements.{verdict_in};
+ghost use Rattle.pr_report.specs.Verdicts.{IsVerdict};
 
-use crate::checks::settled;
 use crate::ending::ended;
 use crate::fault::{ExitStatus, Fault};
+use crate::judging::{Acceptance, Method, judged};
 use pr_output::WriteFault;
 use pr_report::{Verdict, write_verdict};
 use pr_roles::{Scenario, has_script};
 use pr_table::write_table;
 use pr_text::read;
 use pr_trace::number_of;
-use pr_verify::{Refused, Verified, verify};
+use pr_verify::{Refused, verify};
 use std::alloc::Global;
 use std::io::{Read, Write};
 
@@ -28,54 +29,61 @@ use std::io::{Read, Write};
 #[derive(Drop)]
 struct JudgedHost {
     host: u8,
-    judgement: Result<Verified, Refused>,
+    judgement: Result<Acceptance, Refused>,
 }
 
-/// `fence table`: reads a scenario, verifies it, and writes the table of the script of the host with this name. Of a scenario that
-/// is refused it writes the line of the verdict, and no table.
+/// `fence table`: reads a scenario, verifies it by this method, and writes the table of the script of the host with this name. Of a
+/// scenario that is refused it writes the line of the verdict, and no table.
 ///
 /// A name that is none of the text, or a guest's, is a usage fault once the text is read. Of a text whose bytes the contract knows
 /// at most 65,537 are taken. A fault is told in one line on `errors`, whose own faults change nothing.
 pub fn do_table<R: Read, W: Write, E: Write>(
     alloc: Global,
+    method: Method,
     name: &str,
     reader: &mut R,
     writer: &mut W,
     errors: &mut E,
 ) -> ExitStatus
     ensures command { IsCommandOver R.Read reader W.Write writer E.Write errors
-        (EndsTable name.now) result }
+        (EndsTable method name.now) result }
     ensures limited { LosesUpTo (MOST_BYTES + 1) (R.remaining reader.old) (R.remaining reader.new) }
 {
-    let end = table_text(alloc, name, reader, writer);
+    let end = table_text(alloc, method, name, reader, writer);
     ended(errors, end)
 }
 
 // Judges, and then writes: whether the scenario is refused.
 fn table_text<R: Read, W: Write>(
     alloc: Global,
+    method: Method,
     name: &str,
     reader: &mut R,
     writer: &mut W,
 ) -> Result<bool, Fault>
-    ensures ends { EndsOver R.Read reader W.Write writer (EndsTable name.now) result }
+    ensures ends { EndsOver R.Read reader W.Write writer (EndsTable method name.now) result }
     ensures limited { LosesUpTo (MOST_BYTES + 1) (R.remaining reader.old) (R.remaining reader.new) }
 {
-    let judged = judge_for(alloc, name, reader)?;
+    let judged = judge_for(alloc, method, name, reader)?;
     put_answer(writer, &judged)?;
     Ok(judged.judgement.is_err())
 }
 
 // Reads the text, finds the host, and verifies the scenario.
-fn judge_for<R: Read>(alloc: Global, name: &str, reader: &mut R) -> Result<JudgedHost, Fault>
-    ensures judged { IsJudgedFor name.now (R.remaining reader.old) result }
+fn judge_for<R: Read>(
+    alloc: Global,
+    method: Method,
+    name: &str,
+    reader: &mut R,
+) -> Result<JudgedHost, Fault>
+    ensures judged { IsJudgedFor method name.now (R.remaining reader.old) result }
     ensures limited { LosesUpTo (MOST_BYTES + 1) (R.remaining reader.old) (R.remaining reader.new) }
 {
     let scenario = read(alloc, reader)?;
     let Some(host) = scripted_host(&scenario, name.as_bytes()) else {
         return Err(Fault::Usage);
     };
-    let judgement = settled(verify(alloc, scenario))?;
+    let judgement = judged(alloc, method, verify(alloc, scenario))?;
     Ok(JudgedHost { host, judgement })
 }
 
@@ -92,14 +100,13 @@ fn scripted_host(scenario: &Scenario, name: &[u8]) -> Option<u8>
     }
 }
 
-#[tactic(auto, using(crate::proofs::lemmas::Checks::Reasons::is_reason))]
 fn put_answer<W: Write>(writer: &mut W, judged: &JudgedHost) -> Result<(), WriteFault>
     requires scripted { IsScripted (task (scenario_in judged.now) judged.now.host) }
-    requires stands { Stands judged.now.judgement }
+    requires verdict { IsVerdict (verdict_in judged.now.judgement) }
     ensures { Writes W.Write writer (answered_text judged.now) result }
 {
     match &judged.judgement {
-        Ok(verified) => write_table(writer, verified.scenario(), judged.host),
+        Ok(accepted) => write_table(writer, accepted.verified.scenario(), judged.host),
         Err(refused) => {
             let verdict = Verdict::Refused(refused.refusal);
             write_verdict(writer, &refused.scenario, &verdict)

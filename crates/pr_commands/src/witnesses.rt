@@ -11,9 +11,9 @@ ghost use Rattle.pr_commands.specs.Endings.{IsCommandOver, EndsOver};
 ghost use Rattle.pr_commands.specs.Witnesses.{EndsWitness, bound_words, is_no, search_text};
 ghost use Rattle.pr_commands.specs.inside.Witnessed.{IsWitnessed, answer_in, witnessed_text};
 
-use crate::checks::settled;
 use crate::ending::ended;
 use crate::fault::{ExitStatus, Fault};
+use crate::judging::settled;
 use crate::witness_text::write_witness;
 use pr_output::{Token, WriteFault, put_line};
 use pr_report::{Verdict, write_verdict};

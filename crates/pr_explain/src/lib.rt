@@ -2,7 +2,8 @@
 //!
 //! [`explanation`] makes the plan: the verdict, what a host can know where it is refused, and what each script costs.
 //! [`write_explanation`] says it in words, with lines of the scenario's text. What a search adds comes behind that: a run that
-//! shows why it is refused ([`inquiry`], [`write_inquiry`]), or which ends come together ([`ends_of`], [`write_prospects`]).
+//! shows why it is refused ([`inquiry`], [`write_inquiry`]), or which ends come together ([`ends_of`], [`write_prospects`]). Before
+//! it comes that what is refused can be left so, where the search says that ([`write_relief`]).
 //! [`write_moment`] says why that is so at the end of a run for which the moment was asked.
 #![tactic(auto)]
 
@@ -53,4 +54,4 @@ pub use planning::{ends_of, explanation, inquiry};
 pub use preempting::Taking;
 pub use senders::{SentBy, SentItem};
 pub use source::lines_of;
-pub use writing::{write_explanation, write_inquiry, write_prospects};
+pub use writing::{write_explanation, write_inquiry, write_prospects, write_relief};

@@ -40,6 +40,9 @@ pub struct Inquiry {
     /// Of one that is safe all the same: for what it is refused, which never is so at once when the refused line is sent; nothing
     /// where that is never sent.
     pub forgotten: Option<Vec<Circumstance>>,
+    /// Of one that is safe without the premises about others on the paths and about the disk's order: in how many worlds a search
+    /// saw that. `fence check --search` accepts it.
+    pub safe_in: Option<usize>,
 }
 
 /// What is said of a scenario.

@@ -3,6 +3,7 @@
 
 ghost use Rattle.std.specs.Prelude.{◌≡◌, ◌↔◌, false, true, map, IfOk, IfSome};
 ghost use Rattle.pr_roles.specs.Safety.{IsSafe};
+ghost use Rattle.pr_roles.specs.SafeRuns.{without_premises};
 ghost use Rattle.pr_roles.specs.Scenarios.{on_shared_paths, scenario_of};
 ghost use Rattle.pr_verify.specs.Outlines.{HaveOutlines};
 ghost use Rattle.pr_views.specs.Tables.{table_of};
@@ -22,7 +23,9 @@ use crate::senders::senders;
 use pr_explore::Explorer;
 use pr_roles::{Scenario, Task};
 use pr_verify::{Refusal, Table, judge};
-use pr_witness::{Bounds, Ends, Finding, USUAL_BOUNDS, ends_together, search_by, search_on};
+use pr_witness::{
+    Bounds, Ends, Finding, USUAL_BOUNDS, ends_together, safe_without_premises, search_by, search_on,
+};
 use std::alloc::{AllocError, Global};
 
 /// How far a search goes for ends that are told beside a verdict: who wants more of them asks `fence ends`.
@@ -94,20 +97,40 @@ fn refused(scenario: Scenario, refusal: Refusal, tables: Vec<Table>) -> Explanat
     })
 }
 
-/// Searches a scenario that is refused for a run that shows why, as `fence witness` does.
+/// Searches a scenario that is refused for a run that shows why, as `fence witness` does, and where it is safe for whether
+/// `fence check --search` accepts it.
 pub fn inquiry(alloc: Global, refused: &RefusedPlan) -> Result<Inquiry, AllocError>
-    ensures { IfOk result (λ found. IsFound (scenario_of refused.now.scenario) refused.now.refusal
-        found.finding) }
+    ensures found { IfOk result (λ found. IsFound (scenario_of refused.now.scenario)
+        refused.now.refusal found.finding) }
+    ensures safe { IfOk result (λ found. IfSome found.safe_in
+        (λ worlds. IsSafe (without_premises (scenario_of refused.now.scenario)))) }
 {
     let scenario = &refused.scenario;
     let (finding, forgotten) = first_search(alloc, refused)?;
     let finding = search_on(alloc, scenario, &refused.refusal, USUAL_BOUNDS, finding)?;
     let senders = senders(alloc, scenario, &finding)?;
+    let safe_in = safe_in(alloc, scenario, &finding)?;
     Ok(Inquiry {
         finding,
         senders,
         forgotten,
+        safe_in,
     })
+}
+
+// Of one that is safe: in how many worlds a search sees that it is so without premises too.
+fn safe_in(
+    alloc: Global,
+    scenario: &Scenario,
+    finding: &Finding,
+) -> Result<Option<usize>, AllocError>
+    ensures { IfOk result (λ found. IfSome found
+        (λ worlds. IsSafe (without_premises (scenario_of scenario.now)))) }
+{
+    match finding {
+        Finding::Safe { .. } => safe_without_premises(alloc, scenario, USUAL_BOUNDS),
+        Finding::Found { .. } | Finding::Nothing { .. } => Ok(None),
+    }
 }
 
 // What a search through all worlds comes to, and for what the scenario is refused where that says that it is safe.

@@ -40,7 +40,11 @@ tells now.\n",
             )
         }
         Finding::Safe { worlds } => {
-            put_safe(sheet, *worlds)?;
+            match inquiry.safe_in {
+                // (that has been said before all else)
+                Some(_) => sheet.put(b"\n")?,
+                None => put_safe(sheet, *worlds)?,
+            }
             put_unseen(sheet, send, inquiry.forgotten.as_deref())?;
             put_others(sheet, send, &refused.tables)
         }
@@ -72,7 +76,19 @@ const UNSEEN_WHERE_SAFE: &[u8] =
 const UNSEEN_OF_SOME_WHERE_SAFE: &[u8] =
     b"It rests on what `accepted` rests on, and on this besides: nothing but its script looks at the disk by the path of a host that is said to be alone.\n";
 
-// That nothing goes wrong with these scripts and roles, what that rests on, and how a check lets it through.
+/// Writes that it can be left so, which a search saw in so many worlds.
+pub(crate) fn put_relief<W: Write>(
+    sheet: &mut Sheet<'_, W>,
+    worlds: usize,
+) -> Result<(), WriteFault> {
+    sheet.say(
+        b"You can leave it so: `fence check --search` accepts this. All {} states of disk and scripts that can come up were looked at, and nothing goes wrong in any of them, also where somebody else looks at the disk by the hosts' paths and where the disk reports an attention before it looks at the reservation. That is proved, but for their number.\n",
+        &[Token::Number(worlds as u64)],
+    )?;
+    sheet.put(b"Without `--search` it is refused, for the reason that follows.\n\n")
+}
+
+// That nothing goes wrong with these scripts and roles, what that rests on, and how CI lets it through.
 fn put_safe<W: Write>(sheet: &mut Sheet<'_, W>, worlds: usize) -> Result<(), WriteFault> {
     sheet.say(
         b"\nYou can leave it so: this is safe all the same. All {} states of disk and scripts that can come up were looked at, and nothing goes wrong in any of them. That is proved, but for their number.\n",

@@ -4,6 +4,7 @@ use crate::accepting::{put_accepted, put_lints};
 use crate::asking::put_questions;
 use crate::plan::{AcceptedPlan, Explanation, Inquiry, RefusedPlan};
 use crate::refusing::{put_inquiry, put_refused};
+use crate::running::put_relief;
 use crate::sheet::Sheet;
 use crate::together::put_together;
 use pr_output::WriteFault;
@@ -43,6 +44,20 @@ pub fn write_prospects<W: Write>(
     }
     put_questions(&mut sheet, &accepted.lints, &accepted.takings)?;
     put_lints(&mut sheet, accepted.scenario.parts(), &accepted.lints)
+}
+
+/// Writes that one that is refused can be left so, where a search says that.
+pub fn write_relief<W: Write>(
+    writer: &mut W,
+    lines: &[&[u8]],
+    refused: &RefusedPlan,
+    inquiry: &Inquiry,
+) -> Result<(), WriteFault> {
+    let mut sheet = Sheet::new(writer, lines, &refused.scenario);
+    match inquiry.safe_in {
+        Some(worlds) => put_relief(&mut sheet, worlds),
+        None => Ok(()),
+    }
 }
 
 /// Writes the rest of what is said of one that is refused: the run that shows why, or that it is safe all the same, and what to

@@ -5,7 +5,7 @@ use Rattle.std.specs.Fmt.{decimal}
 use Rattle.pr_roles.specs.declared.refusal.Refusal.{Refusal}
 use Rattle.pr_roles.specs.declared.refusal.Refusal.TheVariants.{NoArm, OutOfRole, OverBudget, Memory, NotSound}
 use Rattle.pr_report.specs.declared.verdict.Verdict.{Verdict}
-use Rattle.pr_report.specs.declared.verdict.Verdict.TheVariants.{Accepted, Refused, Legal, Illegal}
+use Rattle.pr_report.specs.declared.verdict.Verdict.TheVariants.{Accepted, AcceptedBySearch, Refused, Legal, Illegal}
 use Rattle.pr_output.specs.PrintedLines.{line, class_word}
 use Rattle.pr_trace.specs.TraceText.{name_of}
 
@@ -19,6 +19,7 @@ IsReason (NotSound host at) = Unit {0}
 
 abbrev pub IsVerdict : Verdict → Type 0
 IsVerdict Accepted = Unit {0}
+IsVerdict (AcceptedBySearch worlds) = Unit {0}
 IsVerdict (Refused refusal) = IsReason refusal
 IsVerdict (Legal items) = Unit {0}
 IsVerdict (Illegal place) = Unit {0}
@@ -26,6 +27,7 @@ IsVerdict (Illegal place) = Unit {0}
 -- it answers no
 abbrev pub is_refusal : Verdict → Bool
 is_refusal Accepted = false
+is_refusal (AcceptedBySearch worlds) = false
 is_refusal (Refused refusal) = true
 is_refusal (Legal items) = false
 is_refusal (Illegal place) = true
@@ -52,8 +54,13 @@ reason_words names (NotSound host at) = place_words (codes "NotSound") (name_of 
 abbrev pub refused_line : List (List ℕ) → List ℕ
 refused_line words = line (codes "refused") words
 
+-- in how many worlds nothing breaks
+abbrev pub searched_words : ℕ → List (List ℕ)
+searched_words worlds = codes "by" ∷ codes "search" ∷ decimal worlds ∷ []
+
 abbrev pub verdict_text : List (List ℕ) → Verdict → List ℕ
 verdict_text names Accepted = line (codes "accepted") []
+verdict_text names (AcceptedBySearch worlds) = line (codes "accepted") (searched_words worlds)
 verdict_text names (Refused refusal) = refused_line (reason_words names refusal)
 verdict_text names (Legal items) = line (codes "legal") (decimal items ∷ [])
 verdict_text names (Illegal place) = line (codes "illegal") (decimal place ∷ [])

@@ -1,13 +1,13 @@
 //! The text of a verdict.
 
-ghost use Rattle.std.specs.Prelude.{◌≡◌, ◌∷◌, []};
+ghost use Rattle.std.specs.Prelude.{◌≡◌, ◌∷◌, [], codes};
 ghost use Rattle.std.specs.Fmt.{decimal};
 ghost use Rattle.pr_report.specs.inside.WordsWritten.{WritesRefusal};
 ghost use Rattle.pr_output.specs.Written.{Writes};
 ghost use Rattle.pr_output.specs.Printed.{printed_words};
 ghost use Rattle.pr_output.specs.PrintedLines.{class_word, line};
 ghost use Rattle.pr_trace.specs.TraceText.{names_of, names_under};
-ghost use Rattle.pr_report.specs.Verdicts.{IsReason, IsVerdict, is_refusal, no_arm_words, over_budget_words, place_words, reason_words, verdict_text};
+ghost use Rattle.pr_report.specs.Verdicts.{IsReason, IsVerdict, is_refusal, no_arm_words, over_budget_words, place_words, reason_words, searched_words, verdict_text};
 
 use pr_output::{Token, WriteFault, put_line};
 use pr_roles::{Nexus, Refusal, Scenario};
@@ -20,6 +20,9 @@ use std::io::Write;
 pub enum Verdict {
     /// The scenario is safe.
     Accepted,
+
+    /// It is safe by a search through so many worlds, which are all that can come up.
+    AcceptedBySearch { worlds: usize },
 
     /// A script is refused, for this reason.
     Refused(Refusal),
@@ -37,7 +40,7 @@ impl Verdict {
         ensures { result ≡ is_refusal self.now }
     {
         match self {
-            Verdict::Accepted | Verdict::Legal { .. } => false,
+            Verdict::Accepted | Verdict::AcceptedBySearch { .. } | Verdict::Legal { .. } => false,
             Verdict::Refused(_) | Verdict::Illegal { .. } => true,
         }
     }
@@ -55,10 +58,27 @@ pub fn write_verdict<W: Write>(
 {
     match verdict {
         Verdict::Accepted => put_line(writer, Token::Text(b"accepted"), &[]),
+        Verdict::AcceptedBySearch { worlds } => put_searched(writer, *worlds),
         Verdict::Refused(refusal) => put_reason(writer, &scenario.parts().nexuses, *refusal),
         Verdict::Legal { items } => put_counted(writer, b"legal", *items),
         Verdict::Illegal { place } => put_counted(writer, b"illegal", *place),
     }
+}
+
+// That a search through so many worlds accepts.
+#[tactic(auto, unfolding(pr_output::specs::Printed::printed_word))]
+fn put_searched<W: Write>(writer: &mut W, worlds: usize) -> Result<(), WriteFault>
+    ensures { Writes W.Write writer (line (codes "accepted") (searched_words worlds)) result }
+{
+    put_line(
+        writer,
+        Token::Text(b"accepted"),
+        &[
+            Token::Text(b"by"),
+            Token::Text(b"search"),
+            Token::Number(worlds as u64),
+        ],
+    )
 }
 
 // The line of a word and a number.

@@ -21,4 +21,4 @@ pub use laws::{breaches_are_legal, breaches_refute_safety};
 pub use moment::run_to_moment;
 pub use pr_explore::{Bound, Bounds, Broken, Together};
 pub use retracing::machines_of;
-pub use searching::{Finding, USUAL_BOUNDS, search, search_by, search_on};
+pub use searching::{Finding, USUAL_BOUNDS, safe_without_premises, search, search_by, search_on};

@@ -20,7 +20,7 @@ handed_on : (known : Option (List ℕ)) (fault : Fault) (r : Result Bool Fault) 
 handed_on known fault (Ok refused) failed told = absurd failed
 handed_on known fault (Err f) same told = subst (λ e. EndsTold known (Err e)) (sym same) told
 
-pub returns-in_err-write_found-clause-ends : goal.returns-in_err-write_found-clause-ends
-returns-in_err-write_found-clause-ends g c =
+pub returns-in_err-write_told-clause-ends : goal.returns-in_err-write_told-clause-ends
+returns-in_err-write_told-clause-ends g c =
     let known = g.R.Read.remaining c.args.reader.now in
-    handed_on known c.in_err-write_found.field-0.0 c.from_residual-in_err-write_found.result c.from_residual-in_err-write_found.ensures.1 (c.in_err-write_found.ensures known)
+    handed_on known c.in_err-write_told.field-0.0 c.from_residual-in_err-write_told.result c.from_residual-in_err-write_told.ensures.1 (c.in_err-write_told.ensures known)

@@ -15,4 +15,4 @@ pub returns-clause-ends : goal.returns-clause-ends
 returns-clause-ends g c =
     let j = c.in_ok-judgement.judgement in
     let judged = c.in_ok-judgement.ensures.judged in
-    whole IsVerdictOf _ _ _ _ _ _ (answered _ _ _ _ (scenario_of (scenario_in j)) (verdict_in j) judged.0 judged.1) (c.is_err.ensures.value ∙ refusal_of j) c.in_ok-put_judgement.ensures
+    whole (IsVerdictOf _) _ _ _ _ _ _ (answered _ _ _ _ (scenario_of (scenario_in j)) (verdict_in j) judged.0 judged.1) (c.is_err.ensures.value ∙ refusal_of j) c.in_ok-put_judgement.ensures

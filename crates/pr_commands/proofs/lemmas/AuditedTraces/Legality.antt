@@ -15,7 +15,7 @@ use Rattle.pr_roles.specs.Worlds.{Control, Free}
 use Rattle.pr_audit.specs.Ends.{counts_in, ending, ending_in, endings}
 use Rattle.pr_audit.specs.Audits.{IsLegalFromFirst}
 use Rattle.pr_report.specs.declared.verdict.Verdict.{Verdict}
-use Rattle.pr_report.specs.declared.verdict.Verdict.TheVariants.{Accepted, Refused, Legal, Illegal}
+use Rattle.pr_report.specs.declared.verdict.Verdict.TheVariants.{Accepted, AcceptedBySearch, Refused, Legal, Illegal}
 use Rattle.pr_report.specs.Verdicts.{is_refusal, verdict_text}
 use Rattle.pr_shared.specs.declared.outcome.Outcome.{Outcome}
 use Rattle.pr_shared.specs.Outcomes.{IsOutcome}
@@ -80,6 +80,7 @@ outcome_traced s o x = record {
 module _ (trace : List ℕ) (s : Scenario) (history : List Item) (traced : trace_of s.version (names_in s) trace ≡ Ok history) (legal : IsLegalFromFirst s history) where
   one_verdict : (verdict : Verdict) → HoldsOfTrace trace s verdict → verdict ≡ Legal (length history)
   one_verdict Accepted holds = absurd holds.2
+  one_verdict (AcceptedBySearch worlds) holds = absurd holds.2
   one_verdict (Refused reason) holds = absurd holds.2
   one_verdict (Legal items) holds =
       let same : holds.0 ≡ history = let both : Ok holds.0 ≡ Ok history = sym holds.1 ∙ traced in cc in

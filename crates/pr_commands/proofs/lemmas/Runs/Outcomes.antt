@@ -1,5 +1,5 @@
 -- A scenario that was run or refused, and what is written of it.
-use Rattle.pr_commands.proofs.Common.{◌≡◌, ℕ, ◌<◌, ◌≤◌, true, List, [], ◌∷◌, zero, suc, Option, Some, None, Ok, Err, Result, refl, sym, ap, ◌∙◌, subst, arith, IfSome, is_err, map, slice_index_or, range_with_len, slice_get, Parts, Scenario, scenario_of, task, commands_by, IsWrittenAs, End, ending_of, name_of, names_in, names_of, Fault, Judgement}
+use Rattle.pr_commands.proofs.Common.{◌≡◌, ℕ, ◌<◌, ◌≤◌, true, List, [], ◌∷◌, zero, suc, Option, Some, None, Ok, Err, Result, refl, sym, ap, ◌∙◌, subst, arith, IfSome, is_err, map, slice_index_or, range_with_len, slice_get, Scenario, scenario_of, task, commands_by, IsWrittenAs, End, ending_of, name_of, names_in, names_of, Fault, Judgement}
 use Rattle.std.proofs.Common.{◌^◌}
 use Rattle.std.specs.Prelude.{length}
 use Rattle.std.specs.List.{list_all}
@@ -13,7 +13,6 @@ use Rattle.pr_roles.specs.Safety.{IsSafe}
 use Rattle.pr_roles.specs.Fitting.{Fits, is_nexus}
 use Rattle.pr_roles.specs.declared.item.Item.{Item}
 use Rattle.pr_world.specs.Rooms.{room_by}
-use Rattle.pr_roles.proofs.lemmas.SafeRuns.FewerPremises.{shared_paths_are_no_safer}
 use Rattle.pr_roles.proofs.lemmas.Starts.AllowedStarts.{each_nexus}
 use Rattle.pr_world.proofs.lemmas.Workings.Room.{sent_within}
 use Rattle.pr_world.proofs.lemmas.Workings.Reserves.{room_of_nexus}
@@ -23,7 +22,10 @@ use Rattle.pr_trace.specs.TraceText.{trace_text}
 use Rattle.pr_commands.specs.declared.fault.Fault.TheVariants as fault
 use Rattle.pr_commands.specs.Runs.{counts_in, outcome_text}
 use Rattle.pr_commands.specs.inside.Performances.{Performed, IsPerformed, IsRunFault, answer_in}
-use Rattle.pr_commands.specs.inside.Judgements.{Stands as Judged, scenario_in as judged_in}
+use Rattle.pr_commands.specs.declared.judging.Acceptance.{Acceptance}
+use Rattle.pr_commands.specs.declared.judging.Method.{Method}
+use Rattle.pr_commands.specs.inside.Judgements.{Stands, scenario_in as judged_in}
+use Rattle.pr_commands.proofs.lemmas.Checks.Verdicts.{safe_by}
 use Rattle.pr_commands.specs.declared.runs.Ran.{Ran}
 
 -- ---- whether it is refused
@@ -69,18 +71,19 @@ named_there (n ∷ ns) (suc h) d there = named_there ns h d (omega (arith, there
 
 -- ---- what was judged is performed
 
-pub refusal_performed : (known : Option (List ℕ)) (j : Judgement) (back : Refused) → j ≡ Err back
-    → IfSome known (λ text. IsWrittenAs text (scenario_of (judged_in j))) × Judged j → IsPerformed known (Ok (Err back))
-refusal_performed known j back same judged =
-    subst (λ j. IfSome known (λ text. IsWrittenAs text (scenario_of (judged_in j))) × Judged j) same judged
+-- the text is known to be that of the judged scenario, and the verdict stands
+abbrev pub IsOfText : Option (List ℕ) → Method → Judgement → Type 0
+IsOfText known method j = IfSome known (λ text. IsWrittenAs text (scenario_of (judged_in j))) × Stands method j
 
-pub run_performed : (known : Option (List ℕ)) (j : Judgement) (v : Parts) (ran : Ran) → j ≡ Ok v
-    → IfSome known (λ text. IsWrittenAs text (scenario_of (judged_in j))) × Judged j → scenario_of ran.scenario ≡ scenario_of v
-    → IsOutcome (scenario_of v) ran.outcome → IsPerformed known (Ok (Ok ran))
-run_performed known j v ran same judged copied comes =
-    let here = subst (λ j. IfSome known (λ text. IsWrittenAs text (scenario_of (judged_in j))) × Judged j) same judged in (
+pub refusal_performed : (known : Option (List ℕ)) (method : Method) (j : Judgement) (back : Refused) → j ≡ Err back → IsOfText known method j → IsPerformed known (Ok (Err back))
+refusal_performed known method j back same judged = subst (IsOfText known method) same judged
+
+pub run_performed : (known : Option (List ℕ)) (method : Method) (j : Judgement) (v : Acceptance) (ran : Ran) → j ≡ Ok v → IsOfText known method j → scenario_of ran.scenario ≡ scenario_of v.verified
+    → IsOutcome (scenario_of v.verified) ran.outcome → IsPerformed known (Ok (Ok ran))
+run_performed known method j v ran same judged copied comes =
+    let here = subst (IsOfText known method) same judged in (
       subst (λ s. IfSome known (λ text. IsWrittenAs text s)) (sym copied) here.0,
-      (subst IsSafe (sym copied) (shared_paths_are_no_safer (scenario_of v) here.1.0), subst (λ s. IsOutcome s ran.outcome) (sym copied) comes),
+      (subst IsSafe (sym copied) (safe_by method (scenario_of v.verified) v.worlds here.1), subst (λ s. IsOutcome s ran.outcome) (sym copied) comes),
     )
 
 -- ---- faults
@@ -98,11 +101,10 @@ fault_in known s fault.History read safe is = tt
 fault_in known s fault.Memory read safe is = tt
 fault_in known s fault.Output read safe is = absurd is
 
-pub fault_performed : (known : Option (List ℕ)) (j : Judgement) (v : Parts) (f : Fault) → j ≡ Ok v
-    → IfSome known (λ text. IsWrittenAs text (scenario_of (judged_in j))) × Judged j → IsRunFault (scenario_of v) f → IsPerformed known (Err f)
-fault_performed known j v f same judged is =
-    let here = subst (λ j. IfSome known (λ text. IsWrittenAs text (scenario_of (judged_in j))) × Judged j) same judged in
-    fault_in known (scenario_of v) f here.0 (shared_paths_are_no_safer (scenario_of v) here.1.0) is
+pub fault_performed : (known : Option (List ℕ)) (method : Method) (j : Judgement) (v : Acceptance) (f : Fault) → j ≡ Ok v → IsOfText known method j → IsRunFault (scenario_of v.verified) f → IsPerformed known (Err f)
+fault_performed known method j v f same judged is =
+    let here = subst (IsOfText known method) same judged in
+    fault_in known (scenario_of v.verified) f here.0 (safe_by method (scenario_of v.verified) v.worlds here.1) is
 
 -- what is handed on as it is
 pub fault_handed_on : (known : Option (List ℕ)) (r : Result Performed Fault) (f : Fault) → IsErr r → IsErrAnd r (λ e. e ≡ f) → IsPerformed known (Err f) → IsPerformed known r

@@ -19,4 +19,4 @@ returns-clause-ends g c =
     let t = c.in_ok-judged.judged in
     let found = c.in_ok-judged.ensures.judged in
     let answer : ℕ × Verdict = (t.host, verdict_in t.judgement) in
-    whole (IsTableOf _) _ _ _ _ _ _ (answered _ _ _ _ (scenario_in t) answer found.0 (found.1.found, found.1.stands)) (c.is_err.ensures.value ∙ refusal_of t.judgement) c.in_ok-put_answer.ensures
+    whole (IsTableOf _ _) _ _ _ _ _ _ (answered _ _ _ _ (scenario_in t) answer found.0 (found.1.found, found.1.stands)) (c.is_err.ensures.value ∙ refusal_of t.judgement) c.in_ok-put_answer.ensures
