@@ -33,8 +33,8 @@ const EXPLAIN_CALL: &str =
 
 /// What the words of a command line say: the subcommand `check` with one `FILE` or more, `run` with its `FILE`, or `table` with its
 /// `FILE` and its `HOST`, each with `--search` or without; `outline` or `witness` with its `FILE`, `ends` with its `FILE` and any
-/// number of `END`, `never` with its `FILE` and any number of `FACT`, `replay` with its `FILE` and one `STEP` or more, or the path of
-/// a list of them behind `--steps`, `audit` with its `FILE` and its `TRACE`, or `explain` with its `FILE` and at most one `TRACE`.
+/// number of `END`, `never` with its `FILE` and any number of `FACT`, `replay` with its `FILE` and one `STEP` or more, or the path
+/// of a list of them behind `--steps`, `audit` with its `FILE` and its `TRACE`, or `explain` with its `FILE` and at most one `TRACE`.
 pub fn matches_of<'a>(alloc: Global, words: &'a [String]) -> Result<ArgMatches<'a>, Error> {
     command(alloc, words)?.try_get_matches_from(words)
 }

@@ -34,9 +34,9 @@ use std::io::{Read, Write};
 use std::sync::Wait;
 use std::thread::Threads;
 
-/// `fence run`: reads a scenario, verifies it by this method, with a thread for each host that has a script, and runs it in threads,
-/// one for each nexus, until every script is stopped and every plan is done. Then it writes the trace. Of a scenario that is refused
-/// nothing is run, and the line of the verdict is written.
+/// `fence run`: reads a scenario, verifies it by this method, with a thread for each host that has a script, and runs it in
+/// threads, one for each nexus, until every script is stopped and every plan is done. Then it writes the trace. Of a scenario that
+/// is refused nothing is run, and the line of the verdict is written.
 ///
 /// Of a text whose bytes the contract knows at most 65,537 are taken. A fault is told in one line on `errors`, whose own
 /// faults change nothing. It waits for the threads, and so may never return.
